@@ -1,4 +1,4 @@
-//! Assertions of tests, as calls: `that(value.is_empty()).expect(&rt, "it holds")`.
+//! Assertions of tests: `assert_that!(&rt, value.is_empty())`.
 //!
 //! A written-out `assert!` is a way out of the test, and the proof follows it with all that the test owns there. A
 //! call of `expect` is not, and names its line on failure.
@@ -31,4 +31,20 @@ pub fn equal<T: PartialEq + Debug + Drop>(left: T, right: T) -> Result<(), (T, T
     } else {
         Err((left, right))
     }
+}
+
+/// Asserts a condition.
+#[macro_export]
+macro_rules! assert_that {
+    ($rt:expr, $holds:expr $(,)?) => {
+        $crate::that($holds).expect($rt, "it holds")
+    };
+}
+
+/// Asserts equality.
+#[macro_export]
+macro_rules! assert_equal {
+    ($rt:expr, $left:expr, $right:expr $(,)?) => {
+        $crate::equal($left, $right).expect($rt, "equal")
+    };
 }

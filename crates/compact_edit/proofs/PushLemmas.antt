@@ -18,24 +18,9 @@ use Rattle.compact_edit.specs.declared.edit.Reply.{Reply}
 use Rattle.compact_edit.specs.declared.edit.Reply.TheVariants.{Done, Char, Text, BadPosition, Refused}
 use Rattle.compact_edit.specs.Steps.{Step}
 use Rattle.compact_edit.specs.Runs.{Run}
+use Rattle.compact_edit.proofs.RunLemmas.{run-append}
 use Rattle.compact_edit.proofs.BytesMoved.{IsPaid, bytes_moved_by_step-kept, paid-start, paid-push, paid-same}
 use Rattle.compact_edit.specs.Pushes.{bytes_moved_by_step, bytes_moved, failure_count, PushesTo}
-
--- the bytes that a run extended by an edit moves
-run-append : {P : Type 0} (g : Growth) (v : PlacedText) (edits : List (Edit P)) (replies : List (Reply P))
-    (u w : PlacedText) (edit : Edit P) (reply : Reply P) (run : Run g v edits replies u) → Step g u edit reply w
-    → (longer : Run g v (edits ++ edit ∷ []) (replies ++ reply ∷ []) w)
-    × (bytes_moved g v (edits ++ edit ∷ []) (replies ++ reply ∷ []) w longer ≡ bytes_moved g v edits replies u run
-    + bytes_moved_by_step u w)
-run-append g v [] [] u w edit reply run step = (
-  (w, subst (λ (x : PlacedText). Step g x edit reply w) run step, refl),
-  rw run (omega arith),
-)
-run-append g v [] (r ∷ rs) u w edit reply run step = absurd run
-run-append g v (e ∷ es) [] u w edit reply run step = absurd run
-run-append g v (e ∷ es) (r ∷ rs) u w edit reply run step =
-    let rest = run-append g run.0 es rs u w edit reply run.2 step in
-    ((run.0, run.1, rest.0), omega (arith, rest.1))
 
 refusals-append : {P : Type 0} (rs ss : List (Reply P)) → failure_count (rs ++ ss) ≡ failure_count rs + failure_count ss
 refusals-append [] ss = omega arith

@@ -1,6 +1,6 @@
 -- Runs extended by an edit.
 use Rattle.std.proofs.Common.{◌≡◌, ℕ, ◌+◌, ◌<◌, List, [], ◌∷◌, ◌++◌}
-use Rattle.std.proofs.Common.{refl, append_assoc, subst, take, get_or, length}
+use Rattle.std.proofs.Common.{refl, append_assoc, subst, take, get_or, length, arith}
 use Rattle.std.proofs.lemmas.List.{take_more}
 use Rattle.compact_str.specs.Value.{PlacedText}
 use Rattle.compact_str.specs.Capacity.{Growth}
@@ -15,6 +15,7 @@ use Rattle.compact_edit.specs.declared.edit.Edit.TheVariants.{Push}
 use Rattle.compact_edit.specs.declared.edit.Reply.TheVariants.{Done, Refused}
 use Rattle.compact_edit.specs.declared.edit.Reply.{Reply}
 use Rattle.compact_edit.specs.Steps.{Step}
+use Rattle.compact_edit.specs.Pushes.{bytes_moved, bytes_moved_by_step}
 use Rattle.compact_edit.specs.Runs.{Run, RunsTo}
 
 -- the step of a push, by its clauses
@@ -25,23 +26,27 @@ pub push-step : {P : Type 0} (g : Growth) (v w : PlacedText) (c : ℕ) (r : Resu
 push-step g v w c (Ok _) reply text place asks same is = rw is (tt, (refl, push-from g v w c text place))
 push-step g v w c (Err _) reply text place asks same is = rw is (same, tt, push_allocates-from v c asks)
 
-pub Run-append : {P : Type 0} (g : Growth) (v : PlacedText) (edits : List (Edit P)) (replies : List (Reply P))
-    (u w : PlacedText) (edit : Edit P) (reply : Reply P) → Run g v edits replies u → Step g u edit reply w
-    → Run g v (edits ++ edit ∷ []) (replies ++ reply ∷ []) w
-Run-append g v [] [] u w edit reply run step = (w, subst (λ (x : PlacedText). Step g x edit reply w) run step, refl)
-Run-append g v [] (r ∷ rs) u w edit reply run step = absurd run
-Run-append g v (e ∷ es) [] u w edit reply run step = absurd run
-Run-append g v (e ∷ es) (r ∷ rs) u w edit reply run step = (
-  run.0,
-  run.1,
-  Run-append g run.0 es rs u w edit reply run.2 step,
+-- a run extended by an edit, and the bytes that it moves
+pub run-append : {P : Type 0} (g : Growth) (v : PlacedText) (edits : List (Edit P)) (replies : List (Reply P))
+    (u w : PlacedText) (edit : Edit P) (reply : Reply P) (run : Run g v edits replies u) → Step g u edit reply w
+    → (longer : Run g v (edits ++ edit ∷ []) (replies ++ reply ∷ []) w)
+    × (bytes_moved g v (edits ++ edit ∷ []) (replies ++ reply ∷ []) w longer ≡ bytes_moved g v edits replies u run
+    + bytes_moved_by_step u w)
+run-append g v [] [] u w edit reply run step = (
+  (w, subst (λ (x : PlacedText). Step g x edit reply w) run step, refl),
+  rw run (omega arith),
 )
+run-append g v [] (r ∷ rs) u w edit reply run step = absurd run
+run-append g v (e ∷ es) [] u w edit reply run step = absurd run
+run-append g v (e ∷ es) (r ∷ rs) u w edit reply run step =
+    let rest = run-append g run.0 es rs u w edit reply run.2 step in
+    ((run.0, run.1, rest.0), omega (arith, rest.1))
 
 pub RunsTo-append : {P : Type 0} (g : Growth) (v : PlacedText) (edits : List (Edit P)) (before after : List (Reply P))
     (u w : PlacedText) (edit : Edit P) (reply : Reply P) → RunsTo g v edits before after u → Step g u edit reply w
     → RunsTo g v (edits ++ edit ∷ []) before (after ++ reply ∷ []) w
 RunsTo-append g v edits before after u w edit reply runs step =
-    (runs.0 ++ reply ∷ [], rw (runs.1, append_assoc) refl, Run-append g v edits runs.0 u w edit reply runs.2 step)
+    (runs.0 ++ reply ∷ [], rw (runs.1, append_assoc) refl, (run-append g v edits runs.0 u w edit reply runs.2 step).0)
 
 -- the run of the first i edits, and a step of the next
 pub RunsTo-take_more : {P : Type 0} (g : Growth) (v : PlacedText) (edits : List (Edit P)) (i : ℕ) (edit : Edit P)

@@ -1,7 +1,6 @@
 //! The interner: numbers and names, and many words compared with a plain list.
 
-use crate::asserts::{assert_equal, assert_that};
-use compact_asserts::that;
+use compact_asserts::{assert_equal, assert_that, that};
 use compact_edit::{InternError, Interner};
 use compact_str::ReserveError;
 use compact_testing::random::Random;
@@ -13,16 +12,6 @@ fn long() -> &'static str {
     "zzzzzzzzzzzzzzzzzzzzzzzzz"
 }
 
-/// Asserts the name of a number.
-fn assert_name(rt: &impl Abort, names: &Interner, number: u32, name: Option<&str>) {
-    assert_equal(rt, names.name(number), name);
-}
-
-/// Asserts the number of names.
-fn assert_count(rt: &impl Abort, names: &Interner, count: usize) {
-    assert_equal(rt, names.len(), count);
-}
-
 /// Interns a text.
 fn number_of(rt: &impl Abort, names: &mut Interner, text: &str) -> u32 {
     names.intern(text).expect(rt, "memory")
@@ -30,7 +19,7 @@ fn number_of(rt: &impl Abort, names: &mut Interner, text: &str) -> u32 {
 
 /// Asserts the number of a text.
 fn is_number(rt: &impl Abort, names: &mut Interner, text: &str, number: u32) {
-    assert_equal(rt, number_of(rt, names, text), number);
+    assert_equal!(rt, number_of(rt, names, text), number);
 }
 
 /// Asserts `numbers` after those of `texts` are appended.
@@ -42,7 +31,7 @@ fn are_numbers(
     wanted: &[u32],
 ) {
     names.intern_all(texts, numbers).expect(rt, "memory");
-    assert_equal(rt, numbers.as_slice(), wanted);
+    assert_equal!(rt, numbers.as_slice(), wanted);
 }
 
 #[test]
@@ -53,26 +42,15 @@ fn a_text_has_the_place_of_its_first_occurrence(rt: HostRuntime) {
     let mut numbers = Vec::new(alloc);
     let texts = ["a", "b", "a", ""];
     are_numbers(rt, &mut names, &texts, &mut numbers, &[0, 1, 0, 2]);
-    assert_count(rt, &names, 3);
-    assert_name(rt, &names, 1, Some("b"));
-    assert_name(rt, &names, 3, None);
+    assert_equal!(rt, names.len(), 3);
+    assert_equal!(rt, names.name(1), Some("b"));
+    assert_equal!(rt, names.name(3), None);
     is_number(rt, &mut names, long(), 3);
     is_number(rt, &mut names, long(), 3);
-    assert_count(rt, &names, 4);
-}
-
-#[test]
-fn numbers_are_appended_to_those_in_the_list(rt: HostRuntime) {
-    let rt = &rt;
-    let alloc = rt.alloc();
-    let mut names = Interner::new(alloc);
-    let mut numbers = Vec::new(alloc);
-    let texts = ["a", "b", "a", ""];
-    are_numbers(rt, &mut names, &texts, &mut numbers, &[0, 1, 0, 2]);
     let texts = ["", "c", "b"];
-    are_numbers(rt, &mut names, &texts, &mut numbers, &[0, 1, 0, 2, 2, 3, 1]);
-    are_numbers(rt, &mut names, &[], &mut numbers, &[0, 1, 0, 2, 2, 3, 1]);
-    assert_count(rt, &names, 4);
+    are_numbers(rt, &mut names, &texts, &mut numbers, &[0, 1, 0, 2, 2, 4, 1]);
+    are_numbers(rt, &mut names, &[], &mut numbers, &[0, 1, 0, 2, 2, 4, 1]);
+    assert_equal!(rt, names.len(), 5);
 }
 
 /// Returns the word of a number: every third one has more than 24 bytes.
@@ -120,7 +98,7 @@ impl PlainList {
 fn assert_names(rt: &impl Abort, alloc: Global, names: &Interner, list: &PlainList) {
     that(names.len() == list.words.len()).expect(rt, "as many");
     for (place, id) in list.words.iter().enumerate() {
-        assert_equal(
+        assert_equal!(
             rt,
             names.name(place as u32),
             Some(word(rt, alloc, *id).as_str()),
@@ -139,7 +117,7 @@ fn many_words_are_numbered_as_in_a_plain_list(rt: HostRuntime) {
         let id = random.below(40_000);
         let text = word(rt, alloc, id);
         let number = number_of(rt, &mut names, text.as_str());
-        assert_equal(rt, number as usize, list.place_of(rt, id));
+        assert_equal!(rt, number as usize, list.place_of(rt, id));
     }
     assert_names(rt, alloc, &names, &list);
 }
@@ -149,18 +127,18 @@ fn errors_have_these_texts(rt: HostRuntime) {
     let rt = &rt;
     let alloc = rt.alloc();
     let shown = format!(in alloc; "{}", InternError::Full);
-    assert_equal(rt, shown.expect(rt, "memory").as_str(), "interner is full");
+    assert_equal!(rt, shown.expect(rt, "memory").as_str(), "interner is full");
     let refused = InternError::from(ReserveError);
-    assert_that(rt, matches!(refused, InternError::Reserve(_)));
+    assert_that!(rt, matches!(refused, InternError::Reserve(_)));
     let shown = format!(in alloc; "{refused}");
     let text = "Cannot allocate memory to hold CompactString";
-    assert_equal(rt, shown.expect(rt, "memory").as_str(), text);
+    assert_equal!(rt, shown.expect(rt, "memory").as_str(), text);
 }
 
 #[test]
 fn an_interner_with_capacity_is_empty(rt: HostRuntime) {
     let rt = &rt;
     let mut names = Interner::with_capacity(rt.alloc(), 100).expect(rt, "memory");
-    assert_that(rt, names.is_empty());
+    assert_that!(rt, names.is_empty());
     is_number(rt, &mut names, "a", 0);
 }

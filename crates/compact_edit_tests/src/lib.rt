@@ -3,16 +3,10 @@
 #![tactic(auto)]
 
 #[cfg(test)]
-mod asserts;
-#[cfg(test)]
 mod inline_edits;
 #[cfg(test)]
 mod interner;
 #[cfg(test)]
-mod lengths;
-#[cfg(test)]
 mod push_reports;
-#[cfg(test)]
-mod replies;
 #[cfg(test)]
 mod runs;

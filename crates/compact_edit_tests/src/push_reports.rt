@@ -1,7 +1,6 @@
 //! Runs of pushes under several growth policies, with the bytes they move; and other calls under those policies.
 
-use crate::asserts::{assert_equal, assert_that};
-use compact_asserts::that;
+use compact_asserts::{assert_equal, assert_that, that};
 use compact_edit::{PushReport, run_pushes};
 use compact_str::{Policy, PolicyString, Standard};
 use compact_testing::checks::{is_heap, is_inline};
@@ -20,13 +19,13 @@ fn insert<P: Policy>(rt: &impl Abort, value: &mut PolicyString<P>, index: usize)
 fn remove_first<P: Policy>(rt: &impl Abort, value: &mut PolicyString<P>) {
     that(0 < value.len()).expect(rt, "it holds");
     that(value.is_char_boundary(0)).expect(rt, "it holds");
-    assert_equal(rt, value.remove(0).expect(rt, "memory"), 'a');
+    assert_equal!(rt, value.remove(0).expect(rt, "memory"), 'a');
 }
 
 /// Asserts how many bytes were moved, and how many pushes failed.
 fn assert_counts<P: Policy>(rt: &impl Abort, report: &PushReport<P>, moved: u64, refused: usize) {
-    assert_equal(rt, report.moved, moved);
-    assert_equal(rt, report.refused, refused);
+    assert_equal!(rt, report.moved, moved);
+    assert_equal!(rt, report.refused, refused);
 }
 
 /// Asserts that all of the texts, which are `a`s, are pushed, the buffer they end in, and how many bytes were moved.
@@ -39,14 +38,14 @@ fn assert_pushed<P: Policy>(
     moved: u64,
 ) {
     let report = run_pushes::<P>(alloc, texts);
-    assert_that(rt, is_heap(&report.value, capacity, ascii_text(count)));
+    assert_that!(rt, is_heap(&report.value, capacity, ascii_text(count)));
     assert_counts(rt, &report, moved, 0);
 }
 
 /// Asserts that all of the texts are pushed, and are inline as `text`.
 fn assert_pushed_inline<P: Policy>(rt: &impl Abort, alloc: Global, texts: &[&str], text: &str) {
     let report = run_pushes::<P>(alloc, texts);
-    assert_that(rt, is_inline(&report.value, text));
+    assert_that!(rt, is_inline(&report.value, text));
     assert_counts(rt, &report, 0, 0);
 }
 
@@ -78,8 +77,8 @@ fn no_texts_leave_the_empty_value(rt: HostRuntime) {
 /// Asserts the result of a thousand pushes of one byte.
 fn assert_thousand<P: Policy>(rt: &impl Abort, alloc: Global, capacity: usize, moved: u64) {
     let report = run_pushes::<P>(alloc, &["a"; 1000]);
-    assert_equal(rt, report.value.len(), 1000);
-    assert_equal(rt, report.value.capacity(), capacity);
+    assert_equal!(rt, report.value.len(), 1000);
+    assert_equal!(rt, report.value.capacity(), capacity);
     assert_counts(rt, &report, moved, 0);
 }
 
@@ -110,7 +109,7 @@ fn buffers_grow_by_a_quarter(rt: HostRuntime) {
     assert_pushed::<Slow>(rt, alloc, &[ascii_text(25)], 25, 25, 0);
     assert_pushed::<Slow>(rt, alloc, &[ascii_text(25), "a"], 31, 26, 25);
     let made = PolicyString::<Slow>::new(alloc, ascii_text(25));
-    assert_that(rt, is_heap(&made.expect(rt, "memory"), 25, ascii_text(25)));
+    assert_that!(rt, is_heap(&made.expect(rt, "memory"), 25, ascii_text(25)));
 }
 
 #[test]
@@ -124,9 +123,9 @@ fn a_shrink_keeps_the_least_capacity(rt: HostRuntime) {
     let made = PolicyString::<Large>::with_capacity(rt.alloc(), 8192);
     let mut value = made.expect(rt, "memory");
     append(&mut value, ascii_text(30)).expect(rt, "memory");
-    assert_that(rt, is_heap(&value, 8192, ascii_text(30)));
+    assert_that!(rt, is_heap(&value, 8192, ascii_text(30)));
     value.shrink_to_fit();
-    assert_that(rt, is_heap(&value, 4096, ascii_text(30)));
+    assert_that!(rt, is_heap(&value, 4096, ascii_text(30)));
 }
 
 #[test]
@@ -134,14 +133,14 @@ fn another_policy_owns_in_its_own_least_buffer(rt: HostRuntime) {
     let rt = &rt;
     let mut value = PolicyString::<Large>::const_new(rt.alloc(), ascii_text(30));
     remove_first(rt, &mut value);
-    assert_that(rt, is_heap(&value, 4096, ascii_text(29)));
+    assert_that!(rt, is_heap(&value, 4096, ascii_text(29)));
     insert(rt, &mut value, 0);
-    assert_that(rt, is_heap(&value, 4096, ascii_text(30)));
+    assert_that!(rt, is_heap(&value, 4096, ascii_text(30)));
 }
 
 #[test]
 fn another_policy_inserts_in_its_own_least_buffer(rt: HostRuntime) {
     let mut value = PolicyString::<Large>::const_new(rt.alloc(), ascii_text(30));
     insert(&rt, &mut value, 30);
-    assert_that(&rt, is_heap(&value, 4096, ascii_text(31)));
+    assert_that!(&rt, is_heap(&value, 4096, ascii_text(31)));
 }

@@ -1,6 +1,6 @@
 //! Runs of edits.
 
-use crate::asserts::{assert_equal, assert_that};
+use compact_asserts::{assert_equal, assert_that};
 use compact_edit::{Edit, Reply, run};
 use compact_str::{CompactString, Standard};
 use compact_testing::checks::{is_heap, is_inline};
@@ -29,24 +29,14 @@ fn each_edit_of_a_list_is_run(rt: HostRuntime) {
     let edits = [Edit::PushStr("a"), Edit::Reserve(100), Edit::ShrinkTo(50)];
     let replies = replies_to(rt, alloc, &mut value, &edits);
     let all = matches!(replies.as_slice(), [Reply::Done, Reply::Done, Reply::Done]);
-    assert_that(rt, all);
-    assert_that(rt, is_heap(&value, 50, ascii_text(4)));
-}
-
-#[test]
-fn a_position_within_a_character_is_bad(rt: HostRuntime) {
-    let rt = &rt;
-    let alloc = rt.alloc();
-    let mut value = short(alloc, "🦄");
-    let replies = replies_to(rt, alloc, &mut value, &[Edit::Insert(1, 'x')]);
-    assert_that(rt, matches!(replies.as_slice(), [Reply::BadPosition]));
-    assert_that(rt, is_inline(&value, "🦄"));
+    assert_that!(rt, all);
+    assert_that!(rt, is_heap(&value, 50, ascii_text(4)));
 }
 
 /// Asserts that the only reply is this text, inline.
 fn assert_text(rt: &impl Abort, replies: &[Reply<Standard>], text: &str) {
     let is = matches!(replies, [Reply::Text(given)] if is_inline(given, text));
-    assert_that(rt, is);
+    assert_that!(rt, is);
 }
 
 #[test]
@@ -57,7 +47,7 @@ fn a_range_is_drained(rt: HostRuntime) {
     let edits = [Edit::Drain(Included(5), Excluded(12))];
     let replies = replies_to(rt, alloc, &mut value, &edits);
     assert_text(rt, &replies, ", world");
-    assert_that(rt, is_inline(&value, "Hello!"));
+    assert_that!(rt, is_inline(&value, "Hello!"));
 }
 
 /// Returns a list of replies that fills its capacity.
@@ -80,8 +70,8 @@ fn a_full_list_of_replies_grows(rt: HostRuntime) {
     run(&mut value, &edits, &mut replies).expect(rt, "memory");
     let added = replies.get(count..).unwrap_or(&[]);
     let are = matches!(added, [Reply::Char(Some('b')), Reply::Done]);
-    assert_that(rt, are);
-    assert_that(rt, is_inline(&value, ""));
+    assert_that!(rt, are);
+    assert_that!(rt, is_inline(&value, ""));
 }
 
 #[test]
@@ -93,5 +83,5 @@ fn replies_that_fit_keep_the_capacity_of_their_list(rt: HostRuntime) {
     let capacity = replies.capacity();
     let edits = [Edit::Pop, Edit::Clear];
     run(&mut value, &edits, &mut replies).expect(rt, "memory");
-    assert_equal(rt, replies.capacity(), capacity);
+    assert_equal!(rt, replies.capacity(), capacity);
 }

@@ -8,7 +8,7 @@ use Rattle.std.specs.List.{concat}
 use Rattle.std.specs.Io.KnownBytes.{Appends, Keeps, IsAtEnd}
 use Rattle.std.specs.Io.BufRead.{drop_through, take_through, strip_last, DropsThrough}
 use Rattle.std.specs.Str.{IsUtf8, is_utf8}
-use Rattle.std.proofs.KnownBytes.{Keeps-refl}
+use Rattle.std.proofs.KnownBytes.{Appends-nil, Appends-trans}
 use Rattle.std.proofs.lemmas.Grind.{flat_map-append}
 use Rattle.std.proofs.lemmas.List.{drop_more, take_rest}
 use Rattle.std.specs.Borrow.{Bor}
@@ -21,23 +21,14 @@ use Rattle.compact_str.specs.declared.ReserveError.{ReserveError}
 use Rattle.compact_edit.specs.declared.edit.Edit.{Edit}
 use Rattle.compact_edit.specs.declared.edit.Edit.TheVariants as edits
 use Rattle.compact_edit.specs.declared.edit.Reply.{Reply}
-use Rattle.compact_edit.specs.declared.edit.Reply.TheVariants.{Done, Char, Text, BadPosition, Refused}
-use Rattle.compact_edit.specs.Steps.{Step, IsLegal, edit_allocates, EditGives}
+use Rattle.compact_edit.specs.Steps.{Step}
 use Rattle.compact_lines.specs.declared.command.Command.TheVariants as commands
 use Rattle.compact_lines.specs.declared.command.Command.{Command}
 use Rattle.compact_lines.specs.Sessions.{State, Executes, DoesOrRefuses, runs_edit, command_allocates}
-use Rattle.compact_lines.specs.Commands.{reference_to, line_command, command_itself, edit_itself, command_of}
+use Rattle.compact_lines.specs.Commands.{line_command, command_itself, edit_itself, command_of}
 use Rattle.compact_lines.specs.Lines.{AnswersCommand, outcome_line, value_line, AnswersLine, AnswersLines, IsFirstLine}
 use Rattle.compact_lines.specs.Lines.{bytes_of, AppendsFront, AppendsAnswer, AppendsAnswerFront, AppendsPart}
 use Rattle.compact_lines.specs.Lines.{AppendsSomeAnswers}
-
--- two appends compose
-pub appends-both : (a b c : Option (List ℕ)) (xs ys : List ℕ) → Appends a b xs → Appends b c ys → Appends a c (xs ++ ys)
-appends-both None b c xs ys first then = tt
-appends-both (Some known) None c xs ys first then = elim first [ ]
-appends-both (Some known) (Some bs) None xs ys first then = elim then [ ]
-appends-both (Some known) (Some bs) (Some cs) xs ys first then = then ∙ ap (λ z. z ++ ys) first
-    ∙ append_assoc known xs ys
 
 -- an append followed by no change
 pub appends-kept : (a b c : Option (List ℕ)) (xs : List ℕ) → Appends a b xs → Keeps b c → Appends a c xs
@@ -46,21 +37,7 @@ appends-kept (Some known) None c xs first kept = elim first [ ]
 appends-kept (Some known) (Some bs) None xs first kept = elim kept [ ]
 appends-kept (Some known) (Some bs) (Some cs) xs first kept = kept ∙ first
 
-pub appends-nothing : (a : Option (List ℕ)) → Appends a a []
-appends-nothing None = tt
-appends-nothing (Some known) = sym (append-nil known)
-
 -- prefixes of some bytes, as written
-
-pub front-none : (old new : Option (List ℕ)) (bytes : List ℕ) → Keeps old new → AppendsFront old new bytes
-front-none old new bytes kept =
-    record {
-      written_bytes = [];
-      rest = bytes;
-      parts = refl;
-      appended =
-          appends-kept old old new [] (appends-nothing old) kept;
-    }
 
 pub front-all : (old new : Option (List ℕ)) (bytes : List ℕ) → Appends old new bytes → AppendsFront old new bytes
 front-all old new bytes all = record {
@@ -86,7 +63,7 @@ front-second old mid new head tail first front = record {
   written_bytes = head ++ front.written_bytes;
   rest = front.rest;
   parts = ap (λ l. head ++ l) front.parts ∙ sym (append_assoc head front.written_bytes front.rest);
-  appended = appends-both old mid new head front.written_bytes first front.appended;
+  appended = Appends-trans old mid new head front.written_bytes first front.appended;
 }
 
 -- the next n bytes are written
@@ -99,7 +76,7 @@ written-more all done rest now n old mid new split is first more = (
       ∙ ap (λ l. done ++ l) (sym (take-append-drop n rest))
       ∙ sym (append_assoc done (take n rest) (drop n rest))
       ∙ ap (λ l. (done ++ take n rest) ++ l) (sym (is ∙ take_rest rest n)),
-  appends-both old mid new done (take n rest) first more,
+  Appends-trans old mid new done (take n rest) first more,
 )
 
 pub written-same : (all done rest now : List ℕ) (old mid new : Option (List ℕ)) → all ≡ done ++ rest → now ≡ rest
@@ -163,7 +140,7 @@ command-written (Ok x) v w u command outcome old mid new does first same second 
     record {
       answer = outcome_line outcome ++ value_line w.value;
       answers = (outcome, refl, does);
-      written = appends-both old mid new (outcome_line outcome) (value_line w.value) first line;
+      written = Appends-trans old mid new (outcome_line outcome) (value_line w.value) first line;
     }
 
 -- an executed command, its lines written in part
@@ -194,63 +171,27 @@ value-stopped (Err e) v w u command outcome old mid new does first same second =
       written = front-second old mid new (outcome_line outcome) (value_line w.value) first line;
     }
 
-step-same : (g : Growth) (v w : PlacedText) (a b : Edit Standard) → (IsLegal v a → IsLegal v b)
-    → (IsLegal v b → IsLegal v a)
-    → (IsTrue (edit_allocates v a) → IsTrue (edit_allocates v b))
-    → ((reply : Reply Standard) → EditGives g v a reply w → EditGives g v b reply w)
-    → (reply : Reply Standard) → Step g v a reply w → Step g v b reply w
-step-same g v w a b legal back asks does BadPosition step = (step.0, λ is. step.1 (back is))
-step-same g v w a b legal back asks does (Refused e) step = (step.0, legal step.1, asks step.2)
-step-same g v w a b legal back asks does Done step = (legal step.0, does Done step.1)
-step-same g v w a b legal back asks does (Char c) step = (legal step.0, does (Char c) step.1)
-step-same g v w a b legal back asks does (Text t) step = (legal step.0, does (Text t) step.1)
-
 -- a step does not depend on where references are stored
 step-itself : (g : Growth) (v w : PlacedText) (edit : Edit Standard) (reply : Reply Standard) → Step g v edit reply w
     → Step g v (edit_itself edit) reply w
-step-itself g v w (edits.PushStr s) reply step =
-    step-same g v w (edits.PushStr s) (edits.PushStr (reference_to s.now)) (λ l. l) (λ l. l) (λ t. t) (λ _ d. d) reply
-    step
-step-itself g v w (edits.InsertStr p s) reply step =
-    step-same g v w (edits.InsertStr p s) (edits.InsertStr p (reference_to s.now)) (λ l. l) (λ l. l) (λ t. t)
-    (λ _ d. d) reply step
-step-itself g v w (edits.ReplaceRange start end s) reply step =
-    step-same g v w (edits.ReplaceRange start end s) (edits.ReplaceRange start end (reference_to s.now)) (λ l. l)
-    (λ l. l) (λ t. t) (λ _ d. d) reply step
-step-itself g v w (edits.Retain answers) reply step =
-    step-same g v w (edits.Retain answers) (edits.Retain (reference_to answers.now)) (λ l. l) (λ l. l) (λ t. t)
-    (λ _ d. d) reply step
-step-itself g v w (edits.CloneFrom source) reply step =
-    step-same g v w (edits.CloneFrom source) (edits.CloneFrom (reference_to source.now)) (λ l. l) (λ l. l) (λ t. t)
-    (λ _ d. d) reply step
+step-itself g v w (edits.PushStr s) reply step = step
 step-itself g v w edit reply step = step
 
 executes-itself : (v w : PlacedText) (command : Command) (reply : Reply Standard) → Executes v command reply w
     → Executes v (command_itself command) reply w
-executes-itself v w (commands.New s) reply does = does
-executes-itself v w commands.Static reply does = does
-executes-itself v w (commands.WithCapacity n) reply does = does
-executes-itself v w (commands.CloneFrom s) reply does = does
 executes-itself v w (commands.Retain flags) reply does =
     rw (← does.1) (step-itself standard_growth v w (edits.Retain does.0) reply does.2)
 executes-itself v w (commands.Edit edit) reply does = step-itself standard_growth v w edit reply does
+executes-itself v w command reply does = does
 
 allocates-itself : (has_room : Bool) (command : Command) → command_allocates has_room (command_itself command)
     ≡ command_allocates has_room command
-allocates-itself has_room (commands.New s) = refl
-allocates-itself has_room commands.Static = refl
-allocates-itself has_room (commands.WithCapacity n) = refl
-allocates-itself has_room (commands.CloneFrom s) = refl
 allocates-itself has_room (commands.Retain flags) = refl
-allocates-itself has_room (commands.Edit edit) = refl
+allocates-itself has_room command = refl
 
 runs-itself : (command : Command) → runs_edit (command_itself command) ≡ runs_edit command
-runs-itself (commands.New s) = refl
-runs-itself commands.Static = refl
-runs-itself (commands.WithCapacity n) = refl
-runs-itself (commands.CloneFrom s) = refl
 runs-itself (commands.Retain flags) = refl
-runs-itself (commands.Edit edit) = refl
+runs-itself command = refl
 
 does-itself : (v w : State) (command : Command) (outcome : Result (Reply Standard) ReserveError)
     → DoesOrRefuses v command outcome w → DoesOrRefuses v (command_itself command) outcome w
@@ -350,7 +291,7 @@ so-far-more v w u known now next old mid new kept taken line so_far takes some s
       (first-line now so_far.1 taken line so_far.3 takes some stripped) answered.answers,
   left-next now next so_far.1 so_far.3 drops,
   rw (concat-snoc so_far.0 answered.answer) (appends-kept old new kept (concat so_far.0 ++ answered.answer)
-      (appends-both old mid new (concat so_far.0) answered.answer so_far.4 answered.written) keeps),
+      (Appends-trans old mid new (concat so_far.0) answered.answer so_far.4 answered.written) keeps),
 )
 
 at-end : (now left : Option (List ℕ)) → IfSome left (λ _. now ≡ left) → IsAtEnd now → IsAtEnd left
@@ -369,7 +310,7 @@ stopped-at-first (Err e) v known old =
       last = v;
       lines = (refl, refl);
       written =
-          front-none old old [] (Keeps-refl old);
+          front-all old old [] (Appends-nil old);
     }
 
 pub stopped-so-far : (v w : State) (known now old new : Option (List ℕ)) → AnswersSoFar v known now old new w

@@ -1,9 +1,10 @@
 //! Buffers in pieces, split at every place.
 
-use crate::asserts::{assert_equal, assert_fitted, assert_that};
 use crate::one_byte_buf::OneByteBuf;
 use bytes::Buf;
+use compact_asserts::{assert_equal, assert_that};
 use compact_str::{CompactString, FromUtf8Error};
+use compact_testing::checks::is_fitted;
 use std::alloc::Global;
 use std::process::Abort;
 
@@ -14,7 +15,7 @@ fn read_whole<B: Buf>(
     buf: &mut B,
 ) -> Result<CompactString, FromUtf8Error> {
     let made = CompactString::from_utf8_buf(alloc, buf);
-    assert_equal(rt, buf.remaining(), 0);
+    assert_equal!(rt, buf.remaining(), 0);
     made
 }
 
@@ -40,10 +41,10 @@ fn assert_read(rt: &impl Abort, alloc: Global, text: &str) {
     let bytes = text.as_bytes();
     for place in 0..bytes.len() + 1 {
         let made = of_two(rt, alloc, bytes, place).ok().expect(rt, "a text");
-        assert_fitted(rt, &made, text);
+        assert_that!(rt, is_fitted(&made, text));
     }
     let made = of_drips(rt, alloc, bytes).ok().expect(rt, "a text");
-    assert_fitted(rt, &made, text);
+    assert_that!(rt, is_fitted(&made, text));
 }
 
 #[test]
@@ -61,9 +62,9 @@ fn a_text_is_read_wherever_it_is_split(rt: HostRuntime) {
 /// Asserts that invalid bytes have one error wherever they are split.
 fn assert_invalid(rt: &impl Abort, alloc: Global, bytes: &[u8], error: FromUtf8Error) {
     for place in 0..bytes.len() + 1 {
-        assert_that(rt, of_two(rt, alloc, bytes, place).err() == Some(error));
+        assert_that!(rt, of_two(rt, alloc, bytes, place).err() == Some(error));
     }
-    assert_that(rt, of_drips(rt, alloc, bytes).err() == Some(error));
+    assert_that!(rt, of_drips(rt, alloc, bytes).err() == Some(error));
 }
 
 /// Returns an error at a byte, with the length of the invalid sequence, or `None` for an unexpected end.

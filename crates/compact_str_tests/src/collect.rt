@@ -1,9 +1,10 @@
 //! Collecting, joining and extending. Values were worked out by hand from the rules.
 
-use crate::asserts::{assert_equal, assert_inline};
-use crate::results::{assert_made_inline, values_of};
+use crate::results::assert_made_inline;
+use compact_asserts::{assert_equal, assert_that};
 use compact_str::{AsText, CompactString, CompactStringExt, append_all};
-use compact_testing::values::{ascii_text, string_with_room};
+use compact_testing::checks::is_inline;
+use compact_testing::values::{ascii_text, string_with_room, values_of};
 use std::alloc::Global;
 use std::borrow::CowStr;
 use std::boxed::BoxedStr;
@@ -63,8 +64,8 @@ fn each_kind(rt: &impl Abort, alloc: Global) -> CompactString {
 #[test]
 fn the_five_kinds_of_text_are_items(rt: HostRuntime) {
     let value = each_kind(&rt, rt.alloc());
-    assert_inline(&rt, &value, "abcde");
-    assert_equal(&rt, (&value).text(), "abcde");
+    assert_that!(&rt, is_inline(&value, "abcde"));
+    assert_equal!(&rt, (&value).text(), "abcde");
 }
 
 #[test]
@@ -74,9 +75,9 @@ fn texts_by_value_are_items_of_the_traits(rt: HostRuntime) {
         .into_iter()
         .collect(rt.alloc())
         .expect(rt, "memory");
-    assert_inline(rt, &value, "abc");
+    assert_that!(rt, is_inline(&value, "abc"));
     value.extend(["äb€", "x"]).expect(rt, "memory");
-    assert_inline(rt, &value, "abcäb€x");
+    assert_that!(rt, is_inline(&value, "abcäb€x"));
 }
 
 #[test]
@@ -84,9 +85,9 @@ fn values_are_appended_to_a_string(rt: HostRuntime) {
     let rt = &rt;
     let alloc = rt.alloc();
     let mut line = String::from_str(alloc, "a").expect(rt, "memory");
-    let values = values_of(rt, alloc, &["b", ascii_text(30)]);
+    let values = values_of(alloc, &["b", ascii_text(30)]).expect(rt, "memory");
     append_all(&mut line, values).expect(rt, "memory");
-    assert_equal(rt, line.as_str(), "abaaaaaaaaaaaaaaaaaaaaaaaaaaaaaa");
+    assert_equal!(rt, line.as_str(), "abaaaaaaaaaaaaaaaaaaaaaaaaaaaaaa");
 }
 
 #[test]
@@ -94,12 +95,12 @@ fn a_string_is_extended_by_values_and_collected_of_them(rt: HostRuntime) {
     let rt = &rt;
     let alloc = rt.alloc();
     let mut line = String::from_str(alloc, "a").expect(rt, "memory");
-    let values = values_of(rt, alloc, &["é", ascii_text(30)]);
+    let values = values_of(alloc, &["é", ascii_text(30)]).expect(rt, "memory");
     line.extend(values).expect(rt, "memory");
-    assert_equal(rt, line.as_str(), "aéaaaaaaaaaaaaaaaaaaaaaaaaaaaaaa");
-    let values = values_of(rt, alloc, &["b", ""]);
+    assert_equal!(rt, line.as_str(), "aéaaaaaaaaaaaaaaaaaaaaaaaaaaaaaa");
+    let values = values_of(alloc, &["b", ""]).expect(rt, "memory");
     let whole: String = values.into_iter().collect(alloc).expect(rt, "memory");
-    assert_equal(rt, whole.as_str(), "b");
+    assert_equal!(rt, whole.as_str(), "b");
 }
 
 #[test]
@@ -107,8 +108,8 @@ fn an_append_that_fits_keeps_the_capacity_of_a_string(rt: HostRuntime) {
     let rt = &rt;
     let alloc = rt.alloc();
     let mut line = string_with_room(alloc, 40, "a").expect(rt, "memory");
-    let values = values_of(rt, alloc, &["é", ascii_text(37)]);
+    let values = values_of(alloc, &["é", ascii_text(37)]).expect(rt, "memory");
     append_all(&mut line, values).expect(rt, "memory");
-    assert_equal(rt, line.len(), 40);
-    assert_equal(rt, line.capacity(), 40);
+    assert_equal!(rt, line.len(), 40);
+    assert_equal!(rt, line.capacity(), 40);
 }

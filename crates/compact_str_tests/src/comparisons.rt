@@ -1,10 +1,9 @@
 //! Comparing and hashing. The order of the many texts was worked out by a program in Python, which sorts by code
 //! points.
 
-use crate::asserts::{assert_equal, assert_heap, assert_that};
-use compact_asserts::that;
+use compact_asserts::{assert_equal, assert_that, that};
 use compact_str::CompactString;
-use compact_testing::checks::{hash_of, is_static};
+use compact_testing::checks::{hash_of, is_heap, is_static};
 use compact_testing::values::{
     append, ascii_text, lasting, short, string_with_room, value_of, with_room,
 };
@@ -22,20 +21,20 @@ fn hash_of_str(text: &str) -> u64 {
 
 /// Asserts that two values are the same in each way.
 fn assert_same(rt: &impl Abort, value: &CompactString, other: &CompactString) {
-    assert_that(rt, value == other);
-    assert_that(rt, other == value);
-    assert_equal(rt, value.cmp(other), Ordering::Equal);
-    assert_equal(rt, value.partial_cmp(other), Some(Ordering::Equal));
-    assert_equal(rt, hash_of(value), hash_of(other));
-    assert_equal(rt, hash_of(value), hash_of_str(other.as_str()));
+    assert_that!(rt, value == other);
+    assert_that!(rt, other == value);
+    assert_equal!(rt, value.cmp(other), Ordering::Equal);
+    assert_equal!(rt, value.partial_cmp(other), Some(Ordering::Equal));
+    assert_equal!(rt, hash_of(value), hash_of(other));
+    assert_equal!(rt, hash_of(value), hash_of_str(other.as_str()));
 }
 
 /// Asserts that one value is less than another.
 fn assert_less(rt: &impl Abort, value: &CompactString, other: &CompactString) {
-    assert_that(rt, value != other);
-    assert_equal(rt, value.cmp(other), Ordering::Less);
-    assert_equal(rt, other.cmp(value), Ordering::Greater);
-    assert_equal(rt, value.partial_cmp(other), Some(Ordering::Less));
+    assert_that!(rt, value != other);
+    assert_equal!(rt, value.cmp(other), Ordering::Less);
+    assert_equal!(rt, other.cmp(value), Ordering::Greater);
+    assert_equal!(rt, value.partial_cmp(other), Some(Ordering::Less));
 }
 
 #[test]
@@ -46,9 +45,9 @@ fn places_and_capacities_are_ignored(rt: HostRuntime) {
     let made = value_of(alloc, ascii_text(30)).expect(rt, "memory");
     let text = string_with_room(alloc, 90, ascii_text(30)).expect(rt, "memory");
     let taken_over = CompactString::from_string_buffer(text);
-    assert_that(rt, is_static(&borrowed, ascii_text(30)));
-    assert_heap(rt, &made, 32, ascii_text(30));
-    assert_heap(rt, &taken_over, 90, ascii_text(30));
+    assert_that!(rt, is_static(&borrowed, ascii_text(30)));
+    assert_that!(rt, is_heap(&made, 32, ascii_text(30)));
+    assert_that!(rt, is_heap(&taken_over, 90, ascii_text(30)));
     assert_same(rt, &borrowed, &made);
     assert_same(rt, &made, &taken_over);
     assert_same(rt, &taken_over, &borrowed);
@@ -108,12 +107,12 @@ fn a_value_hashes_as_its_str(rt: HostRuntime) {
     let alloc = rt.alloc();
     for count in 0..65 {
         let text = ascii_text(count);
-        assert_equal(
+        assert_equal!(
             &rt,
             hash_of(&value_of(alloc, text).expect(&rt, "memory")),
             hash_of_str(text),
         );
-        assert_equal(&rt, hash_of(&lasting(alloc, count)), hash_of_str(text));
+        assert_equal!(&rt, hash_of(&lasting(alloc, count)), hash_of_str(text));
     }
 }
 
@@ -184,7 +183,7 @@ fn checksum(texts: &[CompactString]) -> u64 {
 fn many_texts_are_sorted_by_their_characters(rt: HostRuntime) {
     let rt = &rt;
     let mut texts = texts(rt, rt.alloc()).expect(rt, "memory");
-    assert_equal(rt, checksum(&texts), 0x09d0_5973_d45d_07b5);
+    assert_equal!(rt, checksum(&texts), 0x09d0_5973_d45d_07b5);
     texts.as_mut_slice().sort_unstable();
-    assert_equal(rt, checksum(&texts), 0x6be0_90d3_3511_8755);
+    assert_equal!(rt, checksum(&texts), 0x6be0_90d3_3511_8755);
 }

@@ -1,8 +1,8 @@
 //! Constructors, with ample memory.
 
-use crate::asserts::{assert_equal, assert_heap, assert_inline, assert_that};
+use compact_asserts::{assert_equal, assert_that};
 use compact_str::CompactString;
-use compact_testing::checks::{is_at, is_static};
+use compact_testing::checks::{is_at, is_heap, is_inline, is_static};
 use compact_testing::values::{ascii_text, lasting, string_with_room};
 use std::alloc::Global;
 use std::borrow::CowStr;
@@ -13,10 +13,10 @@ use std::process::Abort;
 fn texts_of_the_program_are_static_if_they_are_long(rt: HostRuntime) {
     let alloc = rt.alloc();
     let value = lasting(alloc, 30);
-    assert_that(&rt, is_static(&value, ascii_text(30)));
-    assert_equal(&rt, value.as_static_str(), Some(ascii_text(30)));
+    assert_that!(&rt, is_static(&value, ascii_text(30)));
+    assert_equal!(&rt, value.as_static_str(), Some(ascii_text(30)));
     let short = CompactString::const_new(alloc, "abc");
-    assert_inline(&rt, &short, "abc");
+    assert_that!(&rt, is_inline(&short, "abc"));
 }
 
 /// A place and a capacity.
@@ -27,10 +27,10 @@ fn assert_reused(rt: &impl Abort, alloc: Global, room: usize, text: &str, placem
     let (place, capacity) = placement;
     let string = string_with_room(alloc, room, text).expect(rt, "memory");
     let value = CompactString::from(string);
-    assert_that(rt, is_at(&value, place, capacity, text));
+    assert_that!(rt, is_at(&value, place, capacity, text));
     let string = string_with_room(alloc, room, text).expect(rt, "memory");
     let value = CompactString::from_cow(alloc, CowStr::Owned(string)).expect(rt, "memory");
-    assert_that(rt, is_at(&value, place, capacity, text));
+    assert_that!(rt, is_at(&value, place, capacity, text));
 }
 
 #[test]
@@ -55,10 +55,10 @@ fn assert_bytes_and_box(
     let (place, capacity) = placement;
     let string = string_with_room(alloc, room, text).expect(rt, "memory");
     let value = CompactString::try_from(string.into_bytes()).expect(rt, "a text");
-    assert_that(rt, is_at(&value, place, capacity, text));
+    assert_that!(rt, is_at(&value, place, capacity, text));
     let string = string_with_room(alloc, room, text).expect(rt, "memory");
     let value = CompactString::from(string.into_boxed_str());
-    assert_that(rt, is_at(&value, place, capacity, text));
+    assert_that!(rt, is_at(&value, place, capacity, text));
 }
 
 #[test]
@@ -76,7 +76,7 @@ fn assert_invalid(rt: &impl Abort, alloc: Global, bytes: &[u8]) {
     let vector = Vec::from_slice(alloc, bytes).expect(rt, "memory");
     match CompactString::try_from(vector) {
         Ok(_) => panic!(rt; "these bytes are no text"),
-        Err(error) => assert_equal(rt, error.as_bytes(), bytes),
+        Err(error) => assert_equal!(rt, error.as_bytes(), bytes),
     }
 }
 
@@ -94,12 +94,12 @@ fn a_string_buffer_is_kept_even_if_short(rt: HostRuntime) {
     let none = CompactString::from_string_buffer(string_with_room(alloc, 100, "").expect(
         &rt, "memory",
     ));
-    assert_heap(&rt, &none, 100, ascii_text(0));
+    assert_that!(&rt, is_heap(&none, 100, ascii_text(0)));
     let unbuffered = CompactString::from_string_buffer(String::new(alloc));
-    assert_inline(&rt, &unbuffered, "");
+    assert_that!(&rt, is_inline(&unbuffered, ""));
 }
 
 #[test]
 fn a_value_takes_32_bytes(rt: HostRuntime) {
-    assert_equal(&rt, size_of::<CompactString>(), 32);
+    assert_equal!(&rt, size_of::<CompactString>(), 32);
 }

@@ -1,8 +1,8 @@
 //! Conversions from a value, with ample memory.
 
-use crate::asserts::{assert_equal, assert_heap, assert_inline, assert_that};
-use compact_asserts::{that, that_for};
+use compact_asserts::{assert_equal, assert_that, that, that_for};
 use compact_str::{CompactString, FromJsonError};
+use compact_testing::checks::{is_heap, is_inline};
 use compact_testing::values::{ascii_text, lasting, short, string_with_room, with_room};
 use serde_json::Value;
 use std::alloc::Global;
@@ -27,14 +27,14 @@ fn what_leaves_has_this_room(rt: HostRuntime) {
     let text = string_with_room(alloc, 90, ascii_text(30)).expect(rt, "memory");
     let value = CompactString::from_string_buffer(text);
     let text = value.into_string().expect(rt, "memory");
-    assert_equal(rt, text.capacity(), 90);
+    assert_equal!(rt, text.capacity(), 90);
     let value = CompactString::from_string_buffer(text);
-    assert_heap(rt, &value, 90, ascii_text(30));
+    assert_that!(rt, is_heap(&value, 90, ascii_text(30)));
     let bytes = value.into_vec().expect(rt, "memory");
-    assert_equal(rt, bytes.capacity(), 90);
+    assert_equal!(rt, bytes.capacity(), 90);
     let bytes = short(alloc, "äb").into_bytes().expect(rt, "memory");
-    assert_equal(rt, bytes.as_slice(), [0xc3, 0xa4, 0x62].as_slice());
-    assert_equal(rt, bytes.capacity(), 24);
+    assert_equal!(rt, bytes.as_slice(), [0xc3, 0xa4, 0x62].as_slice());
+    assert_equal!(rt, bytes.capacity(), 24);
 }
 
 #[test]
@@ -42,13 +42,13 @@ fn boxes_and_shared_texts_have_the_text(rt: HostRuntime) {
     let rt = &rt;
     let alloc = rt.alloc();
     let boxed = short(alloc, "äb").into_boxed_str().expect(rt, "memory");
-    assert_equal(rt, boxed.as_str(), "äb");
+    assert_equal!(rt, boxed.as_str(), "äb");
     let boxed = shortened(rt, alloc).into_boxed_str().expect(rt, "memory");
-    assert_equal(rt, boxed.as_str(), "äb");
+    assert_equal!(rt, boxed.as_str(), "äb");
     let shared = shortened(rt, alloc).into_rc().expect(rt, "memory");
-    assert_equal(rt, shared.as_str(), "äb");
+    assert_equal!(rt, shared.as_str(), "äb");
     let shared = lasting(alloc, 30).into_rc().expect(rt, "memory");
-    assert_equal(rt, shared.as_str(), ascii_text(30));
+    assert_equal!(rt, shared.as_str(), ascii_text(30));
 }
 
 #[test]
@@ -56,23 +56,23 @@ fn an_empty_value_is_converted(rt: HostRuntime) {
     let rt = &rt;
     let alloc = rt.alloc();
     let text = short(alloc, "").into_string().expect(rt, "memory");
-    assert_equal(rt, text.len(), 0);
+    assert_equal!(rt, text.len(), 0);
     let bytes = short(alloc, "").into_vec().expect(rt, "memory");
-    assert_equal(rt, bytes.len(), 0);
+    assert_equal!(rt, bytes.len(), 0);
     let boxed = short(alloc, "").into_boxed_str().expect(rt, "memory");
-    assert_equal(rt, boxed.as_str(), "");
+    assert_equal!(rt, boxed.as_str(), "");
     let shared = short(alloc, "").into_rc().expect(rt, "memory");
-    assert_equal(rt, shared.as_str(), "");
+    assert_equal!(rt, shared.as_str(), "");
     let cow = short(alloc, "").into_cow().expect(rt, "memory");
-    assert_equal(rt, cow.as_str(), "");
+    assert_equal!(rt, cow.as_str(), "");
     let json = json_of(rt, &short(alloc, ""));
-    assert_equal(rt, json.as_str(), Some(""));
+    assert_equal!(rt, json.as_str(), Some(""));
 }
 
 /// Asserts a text, and whether it is borrowed.
 fn assert_cow(rt: &impl Abort, cow: CowStr<'_>, text: &str, is_borrowed: bool) {
-    assert_that(rt, matches!(cow, CowStr::Borrowed(_)) == is_borrowed);
-    assert_equal(rt, cow.as_str(), text);
+    assert_that!(rt, matches!(cow, CowStr::Borrowed(_)) == is_borrowed);
+    assert_equal!(rt, cow.as_str(), text);
 }
 
 #[test]
@@ -96,7 +96,7 @@ fn json_of(rt: &impl Abort, value: &CompactString) -> Value {
 /// Asserts the JSON of a text, as printed.
 fn is_printed(rt: &impl Abort, alloc: Global, value: CompactString, text: &str) {
     let json = json_of(rt, &value);
-    assert_equal(
+    assert_equal!(
         rt,
         json.to_string(alloc).expect(rt, "memory").as_str(),
         text,
@@ -115,7 +115,7 @@ fn a_value_is_a_json_string(rt: HostRuntime) {
     is_printed(rt, alloc, short(alloc, "abc"), "\"abc\"");
     is_printed(rt, alloc, short(alloc, "ä\"\n"), "\"ä\\\"\\n\"");
     let json = json_of(rt, &lasting(alloc, 30));
-    assert_heap(rt, &value_in(rt, alloc, &json), 32, ascii_text(30));
+    assert_that!(rt, is_heap(&value_in(rt, alloc, &json), 32, ascii_text(30)));
 }
 
 /// Parses a JSON value.
@@ -135,7 +135,7 @@ fn only_a_json_string_is_converted(rt: HostRuntime) {
     let rt = &rt;
     let alloc = rt.alloc();
     let json = json_in(rt, alloc, "\"abc\"");
-    assert_inline(rt, &value_in(rt, alloc, &json), "abc");
+    assert_that!(rt, is_inline(&value_in(rt, alloc, &json), "abc"));
     for text in ["1", "null", "true", "[]", "{}", "[\"abc\"]"] {
         is_no_string(rt, alloc, text);
     }

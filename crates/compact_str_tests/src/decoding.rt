@@ -1,9 +1,7 @@
 //! Decoding bytes and UTF-16 units. Texts and errors are those of the Unicode Standard, worked out by hand.
 
-use crate::asserts::{assert_equal, assert_that};
 use crate::results::{assert_made_inline, assert_shown};
-use bytes::Buf;
-use compact_asserts::that_for;
+use compact_asserts::{assert_equal, assert_that, that_for};
 use compact_str::{CompactString, FromUtf8Error, FromUtf16Error, ReserveError, Utf16Error};
 use compact_testing::values::ascii_text;
 use std::alloc::Global;
@@ -25,8 +23,8 @@ fn assert_invalid(
     };
     that_for(bytes, error == Some(wanted)).expect(rt, "it holds");
     let lossy = CompactString::from_utf8_lossy(alloc, bytes).expect(rt, "memory");
-    assert_equal(rt, lossy.as_str(), text);
-    assert_that(rt, lossy.is_heap_allocated() == (text.len() > 24));
+    assert_equal!(rt, lossy.as_str(), text);
+    assert_that!(rt, lossy.is_heap_allocated() == (text.len() > 24));
 }
 
 #[test]
@@ -106,8 +104,8 @@ fn the_examples_of_the_standard(rt: HostRuntime) {
 /// Asserts a heap text of 30 `a`s.
 fn assert_ascii<E: Drop>(rt: &impl Abort, made: Result<CompactString, E>) {
     let made = made.ok().expect(rt, "a text");
-    assert_equal(rt, made.as_str(), ascii_text(30));
-    assert_that(rt, made.is_heap_allocated());
+    assert_equal!(rt, made.as_str(), ascii_text(30));
+    assert_that!(rt, made.is_heap_allocated());
 }
 
 /// Asserts that each decoder reads its form of this short text.
@@ -160,9 +158,9 @@ fn each_form_of_a_text_is_decoded(rt: HostRuntime) {
 /// Asserts that units are invalid, and their lossy text.
 fn assert_unpaired(rt: &impl Abort, alloc: Global, units: &[u16], text: &str) {
     let strict = CompactString::from_utf16(alloc, units);
-    assert_that(rt, matches!(strict, Err(FromUtf16Error::Utf16(_))));
+    assert_that!(rt, matches!(strict, Err(FromUtf16Error::Utf16(_))));
     let lossy = CompactString::from_utf16_lossy(alloc, units).expect(rt, "memory");
-    assert_equal(rt, lossy.as_str(), text);
+    assert_equal!(rt, lossy.as_str(), text);
 }
 
 #[test]
@@ -197,7 +195,7 @@ fn units_of_a_text_are_decoded(rt: HostRuntime) {
 
 /// Asserts that units are invalid.
 fn assert_invalid_units(rt: &impl Abort, made: Result<CompactString, FromUtf16Error>) {
-    assert_that(rt, matches!(made, Err(FromUtf16Error::Utf16(_))));
+    assert_that!(rt, matches!(made, Err(FromUtf16Error::Utf16(_))));
 }
 
 #[test]
@@ -218,14 +216,6 @@ fn invalid_bytes_of_units_are_reported_and_replaced(rt: HostRuntime) {
 }
 
 #[test]
-fn a_buffer_that_is_known_to_be_a_text_is_read_to_its_end(rt: HostRuntime) {
-    let mut known = "abc".as_bytes();
-    let made = CompactString::from_utf8_buf_unchecked(rt.alloc(), &mut known);
-    assert_made_inline(&rt, made, "abc");
-    assert_equal(&rt, known.remaining(), 0);
-}
-
-#[test]
 fn errors_have_these_texts(rt: HostRuntime) {
     let alloc = rt.alloc();
     let invalid = FromUtf8Error::Utf8 {
@@ -243,7 +233,7 @@ fn failed_allocations_have_this_text(rt: HostRuntime) {
     let alloc = rt.alloc();
     let text = "Cannot allocate memory to hold CompactString";
     let refused = FromUtf8Error::from(ReserveError);
-    assert_that(&rt, refused == FromUtf8Error::Reserve(ReserveError));
+    assert_that!(&rt, refused == FromUtf8Error::Reserve(ReserveError));
     assert_shown(&rt, format!(in alloc; "{refused}"), text);
     let refused = FromUtf16Error::from(ReserveError);
     assert_shown(&rt, format!(in alloc; "{refused}"), text);

@@ -1,7 +1,7 @@
 //! Decoding all inputs of a kind. The counts and checksums were computed by Python's decoder, which also writes one
 //! U+FFFD for each maximal subpart, and again by Rust's.
 
-use crate::asserts::{assert_equal, assert_that};
+use compact_asserts::{assert_equal, assert_that};
 use compact_str::{CompactString, FromUtf8Error};
 use std::alloc::Global;
 use std::process::Abort;
@@ -31,7 +31,7 @@ fn error_of(rt: &impl Abort, alloc: Global, bytes: &[u8]) -> u64 {
             .wrapping_mul(8)
             .wrapping_add(error_len.unwrap_or(0) as u64),
         Err(FromUtf8Error::Reserve(_)) => {
-            assert_that(rt, false);
+            assert_that!(rt, false);
             0
         }
     }
@@ -40,7 +40,7 @@ fn error_of(rt: &impl Abort, alloc: Global, bytes: &[u8]) -> u64 {
 /// Mixes the bytes and length of the lossy text into a checksum. Asserts that a text is inline just up to 24 bytes.
 fn mix_lossy(rt: &impl Abort, alloc: Global, sum: u64, bytes: &[u8]) -> u64 {
     let text = CompactString::from_utf8_lossy(alloc, bytes).expect(rt, "memory");
-    assert_that(rt, text.is_heap_allocated() == (text.len() > 24));
+    assert_that!(rt, text.is_heap_allocated() == (text.len() > 24));
     let mut sum = sum;
     for byte in text.as_bytes() {
         sum = mix(sum, u64::from(*byte));
@@ -71,12 +71,12 @@ fn all_inputs_of_two_bytes(rt: HostRuntime) {
             sum = mix_lossy(rt, alloc, mix(sum, error), &[first, second]);
         }
     }
-    assert_equal(rt, texts, 18304);
-    assert_equal(rt, invalid_at_first, 29632);
-    assert_equal(rt, invalid_at_second, 9856);
-    assert_equal(rt, open_at_first, 1216);
-    assert_equal(rt, open_at_second, 6528);
-    assert_equal(rt, sum, 0x0020_fb58_2b7c_9240);
+    assert_equal!(rt, texts, 18304);
+    assert_equal!(rt, invalid_at_first, 29632);
+    assert_equal!(rt, invalid_at_second, 9856);
+    assert_equal!(rt, open_at_first, 1216);
+    assert_equal!(rt, open_at_second, 6528);
+    assert_equal!(rt, sum, 0x0020_fb58_2b7c_9240);
 }
 
 #[test]
@@ -96,8 +96,8 @@ fn all_inputs_of_three_bytes_at_the_bounds(rt: HostRuntime) {
             }
         }
     }
-    assert_equal(rt, texts, 279);
-    assert_equal(rt, sum, 0xb65d_1f78_3995_512c);
+    assert_equal!(rt, texts, 279);
+    assert_equal!(rt, sum, 0xb65d_1f78_3995_512c);
 }
 
 #[test]
@@ -111,7 +111,7 @@ fn all_pairs_of_units_at_the_bounds(rt: HostRuntime) {
             }
         }
     }
-    assert_equal(&rt, texts, 8);
+    assert_equal!(&rt, texts, 8);
 }
 
 /// An xorshift generator.
@@ -187,6 +187,6 @@ fn two_thousand_invalid_inputs(rt: HostRuntime) {
         0xbd68_8240_e592_a257,
         0x830a_2d9a_d257_5f05,
     ] {
-        assert_equal(&rt, hundred(&rt, rt.alloc(), &mut generator), sum);
+        assert_equal!(&rt, hundred(&rt, rt.alloc(), &mut generator), sum);
     }
 }

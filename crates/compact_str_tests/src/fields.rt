@@ -1,8 +1,8 @@
 //! Values in serde, as JSON.
 
-use crate::asserts::{assert_equal, assert_fitted, assert_that};
+use compact_asserts::{assert_equal, assert_that};
 use compact_str::CompactString;
-use compact_testing::checks::are_texts;
+use compact_testing::checks::{are_texts, is_fitted};
 use compact_testing::values::{append, lasting, value_of};
 use std::alloc::Global;
 use std::process::Abort;
@@ -34,15 +34,18 @@ fn read(rt: &impl Abort, alloc: Global, text: &str) -> CompactString {
 fn goes_round(rt: &impl Abort, alloc: Global, value: &CompactString) {
     let json = written(rt, alloc, value);
     let inner = json.strip_prefix('"').expect(rt, "a quote");
-    assert_equal(rt, inner.strip_suffix('"'), Some(value.as_str()));
-    assert_fitted(rt, &read(rt, alloc, json.as_str()), value.as_str());
+    assert_equal!(rt, inner.strip_suffix('"'), Some(value.as_str()));
+    assert_that!(
+        rt,
+        is_fitted(&read(rt, alloc, json.as_str()), value.as_str())
+    );
 }
 
 /// Asserts this for each length up to 60 bytes.
 fn all_go_round(rt: &impl Abort, alloc: Global, character: &str) {
     for count in 0..=60 {
         let text = filled(rt, alloc, character, count);
-        assert_equal(rt, text.len(), count);
+        assert_equal!(rt, text.len(), count);
         goes_round(rt, alloc, &text);
     }
 }
@@ -62,8 +65,8 @@ fn a_static_value_is_written_too(rt: HostRuntime) {
 
 /// Asserts the JSON of a value, and that it is read back.
 fn is_written(rt: &impl Abort, alloc: Global, value: &CompactString, json: &str) {
-    assert_equal(rt, written(rt, alloc, value).as_str(), json);
-    assert_fitted(rt, &read(rt, alloc, json), value.as_str());
+    assert_equal!(rt, written(rt, alloc, value).as_str(), json);
+    assert_that!(rt, is_fitted(&read(rt, alloc, json), value.as_str()));
 }
 
 #[test]
@@ -92,9 +95,9 @@ fn what_json_escapes_is_read_back(rt: HostRuntime) {
 fn escapes_that_no_writer_makes_are_read(rt: HostRuntime) {
     let rt = &rt;
     let alloc = rt.alloc();
-    assert_fitted(rt, &read(rt, alloc, r#""\u00eb""#), "ë");
-    assert_fitted(rt, &read(rt, alloc, r#""\ud834\udd1e""#), "𝄞");
-    assert_fitted(rt, &read(rt, alloc, r#" "a\/b" "#), "a/b");
+    assert_that!(rt, is_fitted(&read(rt, alloc, r#""\u00eb""#), "ë"));
+    assert_that!(rt, is_fitted(&read(rt, alloc, r#""\ud834\udd1e""#), "𝄞"));
+    assert_that!(rt, is_fitted(&read(rt, alloc, r#" "a\/b" "#), "a/b"));
 }
 
 #[test]
@@ -104,13 +107,13 @@ fn texts_of_a_list_are_read_in_order(rt: HostRuntime) {
         &rt,
         "a row of texts",
     );
-    assert_that(&rt, are_texts(row.as_slice(), &texts));
+    assert_that!(&rt, are_texts(row.as_slice(), &texts));
 }
 
 /// Asserts that a JSON text is not a valid string.
 fn assert_unread(rt: &impl Abort, alloc: Global, json: &str) {
     let read: Result<CompactString, serde_json::Error> = serde_json::from_str(alloc, json);
-    assert_that(rt, read.is_err());
+    assert_that!(rt, read.is_err());
 }
 
 #[test]

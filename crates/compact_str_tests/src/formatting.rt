@@ -1,7 +1,7 @@
 //! `Debug` and `Display`. Expected is what Rust prints for a `str`.
 
-use crate::asserts::assert_that;
 use crate::results::assert_shown;
+use compact_asserts::assert_that;
 use compact_str::{CompactString, FromJsonError, ReserveError};
 use compact_testing::values::{ascii_text, lasting, short};
 
@@ -61,6 +61,6 @@ fn errors_have_these_texts(rt: HostRuntime) {
     let error = FromJsonError::NotAString;
     assert_shown(rt, format!(in alloc; "{error}"), "not a JSON string");
     let error = FromJsonError::from(ReserveError);
-    assert_that(rt, matches!(error, FromJsonError::Reserve(ReserveError)));
+    assert_that!(rt, matches!(error, FromJsonError::Reserve(ReserveError)));
     assert_shown(rt, format!(in alloc; "{error}"), text);
 }

@@ -3,8 +3,6 @@
 #![tactic(auto)]
 
 #[cfg(test)]
-mod asserts;
-#[cfg(test)]
 mod buffers;
 #[cfg(test)]
 mod capacity;

@@ -1,7 +1,7 @@
 //! Texts of 100,000 bytes: no contract says that a call with enough memory succeeds.
 
-use crate::asserts::{assert_equal, assert_that};
 use bytes::Buf;
+use compact_asserts::{assert_equal, assert_that};
 use compact_str::{CompactString, FromUtf8Error};
 use std::alloc::Global;
 use std::process::Abort;
@@ -16,16 +16,16 @@ fn long(rt: &impl Abort, alloc: Global) -> String {
 /// Asserts that a call made that text, without spare capacity.
 fn assert_long<E: Drop>(rt: &impl Abort, alloc: Global, made: Result<CompactString, E>) {
     let made = made.ok().expect(rt, "a text");
-    assert_that(rt, made.as_str() == long(rt, alloc).as_str());
-    assert_equal(rt, made.capacity(), 100_000);
+    assert_that!(rt, made.as_str() == long(rt, alloc).as_str());
+    assert_equal!(rt, made.capacity(), 100_000);
 }
 
 #[test]
 fn a_long_capacity_is_allocated(rt: HostRuntime) {
     let rt = &rt;
     let made = CompactString::with_capacity(rt.alloc(), 100_000).expect(rt, "memory");
-    assert_equal(rt, made.capacity(), 100_000);
-    assert_equal(rt, made.len(), 0);
+    assert_equal!(rt, made.capacity(), 100_000);
+    assert_equal!(rt, made.len(), 0);
 }
 
 #[test]
@@ -70,9 +70,9 @@ fn long_texts_are_concatenated(rt: HostRuntime) {
     let alloc = rt.alloc();
     let text = long(rt, alloc);
     let made = CompactString::from_texts(alloc, ["b", text.as_str(), "c"]).expect(rt, "memory");
-    assert_equal(rt, made.len(), 100_002);
-    assert_that(rt, made.starts_with("ba"));
-    assert_that(rt, made.ends_with("ac"));
+    assert_equal!(rt, made.len(), 100_002);
+    assert_that!(rt, made.starts_with("ba"));
+    assert_that!(rt, made.ends_with("ac"));
 }
 
 #[test]
@@ -91,7 +91,7 @@ fn assert_error(rt: &impl Abort, alloc: Global, bytes: &[u8], wanted: (usize, Op
         valid_up_to,
         error_len,
     };
-    assert_that(
+    assert_that!(
         rt,
         CompactString::from_utf8(alloc, bytes).err() == Some(error),
     );
@@ -111,7 +111,7 @@ fn long_bytes_are_validated_to_their_end(rt: HostRuntime) {
     set(rt, &mut bytes, 8190, 0xE2);
     set(rt, &mut bytes, 8191, 0x82);
     set(rt, &mut bytes, 8192, 0xAC);
-    assert_that(rt, CompactString::from_utf8(alloc, &bytes).is_ok());
+    assert_that!(rt, CompactString::from_utf8(alloc, &bytes).is_ok());
     set(rt, &mut bytes, 19999, 0xE2);
     assert_error(rt, alloc, &bytes, (19999, None));
     set(rt, &mut bytes, 15000, 0xF4);

@@ -3,8 +3,7 @@
 //! text is tried on the heap, with capacity for the longer of the two, and as it is made, so that what has at most 24
 //! bytes before and after is inline.
 
-use crate::asserts::{assert_equal, assert_that};
-use compact_asserts::that;
+use compact_asserts::{assert_equal, assert_that, that};
 use compact_str::CompactString;
 use compact_testing::values::{append, value_of};
 use std::alloc::Global;
@@ -48,20 +47,20 @@ fn source(rt: &impl Abort, alloc: Global, len: usize) -> String {
 
 /// Asserts the ten bytes before a part, `added` new ones, and the `tail` bytes that were first at `end`.
 fn assert_bytes(rt: &impl Abort, bytes: &[u8], added: usize, end: usize, tail: usize) {
-    assert_equal(
+    assert_equal!(
         rt,
         bytes.len(),
         10usize.saturating_add(added).saturating_add(tail),
     );
     for place in 0..10 {
-        assert_equal(rt, bytes.get(place), Some(&old(place)));
+        assert_equal!(rt, bytes.get(place), Some(&old(place)));
     }
     for place in 0..added {
-        assert_equal(rt, bytes.get(place.saturating_add(10)), Some(&new(place)));
+        assert_equal!(rt, bytes.get(place.saturating_add(10)), Some(&new(place)));
     }
     for place in 0..tail {
         let at = place.saturating_add(added).saturating_add(10);
-        assert_equal(rt, bytes.get(at), Some(&old(place.saturating_add(end))));
+        assert_equal!(rt, bytes.get(at), Some(&old(place.saturating_add(end))));
     }
 }
 
@@ -77,7 +76,7 @@ fn assert_replaced(
     that(text.check_range(Included(10), Excluded(end)).is_some()).expect(rt, "a range");
     text.replace_range(Included(10), Excluded(end), added)
         .expect(rt, "memory");
-    assert_equal(rt, text.capacity(), capacity);
+    assert_equal!(rt, text.capacity(), capacity);
     assert_bytes(rt, text.as_str().as_bytes(), added.len(), end, tail);
 }
 
@@ -85,7 +84,7 @@ fn assert_replaced(
 fn with_room(rt: &impl Abort, alloc: Global, text: &str, additional: usize) -> CompactString {
     let mut made = value_of(alloc, text).expect(rt, "memory");
     made.reserve(additional).expect(rt, "memory");
-    assert_equal(
+    assert_equal!(
         rt,
         made.is_heap_allocated(),
         text.len().saturating_add(additional) > 24,
@@ -98,7 +97,7 @@ fn on_the_heap(rt: &impl Abort, alloc: Global, text: &str, additional: usize) ->
     let capacity = text.len().saturating_add(additional).max(25);
     let mut made = CompactString::with_capacity(alloc, capacity).expect(rt, "memory");
     append(&mut made, text).expect(rt, "memory");
-    assert_that(rt, made.is_heap_allocated());
+    assert_that!(rt, made.is_heap_allocated());
     made
 }
 
@@ -158,7 +157,7 @@ fn assert_one_byte(rt: &impl Abort, text: &mut CompactString, tail: usize) {
     assert_bytes(rt, text.as_str().as_bytes(), 1, 10, tail);
     that(text.is_char_boundary(10)).expect(rt, "it holds");
     that(10 < text.len()).expect(rt, "it holds");
-    assert_equal(rt, text.remove(10).expect(rt, "memory"), 'a');
+    assert_equal!(rt, text.remove(10).expect(rt, "memory"), 'a');
     assert_bytes(rt, text.as_str().as_bytes(), 0, 10, tail);
 }
 

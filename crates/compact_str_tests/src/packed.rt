@@ -1,9 +1,9 @@
 //! The 24 bytes of inline values, written out.
 
-use crate::asserts::{assert_equal, assert_inline, assert_that};
-use compact_asserts::that;
+use compact_asserts::{assert_equal, assert_that, that};
 use compact_str::CompactString;
-use compact_testing::values::{append, ascii_text, lasting, value_of, with_room};
+use compact_testing::checks::is_inline;
+use compact_testing::values::{append, ascii_text, lasting, value_of};
 use std::alloc::Global;
 use std::process::Abort;
 
@@ -29,9 +29,9 @@ fn is_packed(rt: &impl Abort, alloc: Global, value: &CompactString) {
     let text = value.as_str();
     let len = text.len();
     that(len <= 24).expect(rt, "it holds");
-    assert_equal(rt, &bytes[..len], text.as_bytes());
-    assert_that(rt, len == 24 || bytes[23] as usize == 192 + len);
-    assert_inline(rt, &read(rt, alloc, &bytes), text);
+    assert_equal!(rt, &bytes[..len], text.as_bytes());
+    assert_that!(rt, len == 24 || bytes[23] as usize == 192 + len);
+    assert_that!(rt, is_inline(&read(rt, alloc, &bytes), text));
 }
 
 /// The same for a value just made from the text, with zeros between text and length.
@@ -42,7 +42,7 @@ fn is_packed_anew(rt: &impl Abort, alloc: Global, value: &CompactString) {
     let bytes = bytes_of(rt, &made);
     let len = made.len();
     that(len <= 24).expect(rt, "it holds");
-    assert_that(
+    assert_that!(
         rt,
         len == 24 || bytes[len..23].iter().all(|byte| *byte == 0),
     );
@@ -50,7 +50,7 @@ fn is_packed_anew(rt: &impl Abort, alloc: Global, value: &CompactString) {
 
 /// Asserts the bytes of an inline value.
 fn assert_packed_bytes(rt: &impl Abort, value: &CompactString, row: &[u8; 24]) {
-    assert_equal(rt, &bytes_of(rt, value), row);
+    assert_equal!(rt, &bytes_of(rt, value), row);
 }
 
 #[test]
@@ -75,48 +75,24 @@ fn the_last_byte_of_24_is_of_the_text_or_its_length(rt: HostRuntime) {
     let rt = &rt;
     let alloc = rt.alloc();
     let euros = bytes_of(rt, &value_of(alloc, "€€€€€€€€").expect(rt, "memory"));
-    assert_equal(rt, euros[23], 0xAC);
+    assert_equal!(rt, euros[23], 0xAC);
     let mut cut = value_of(alloc, ascii_text(24)).expect(rt, "memory");
     truncate(rt, &mut cut, 3);
-    assert_equal(rt, bytes_of(rt, &cut)[23], 0xC3);
+    assert_equal!(rt, bytes_of(rt, &cut)[23], 0xC3);
     is_packed(rt, alloc, &cut);
-}
-
-/// Asserts whether a value has the bytes.
-fn has_bytes(rt: &impl Abort, value: CompactString, has: bool) {
-    assert_that(rt, value.packed().is_some() == has);
-}
-
-#[test]
-fn only_inline_values_have_the_bytes(rt: HostRuntime) {
-    let rt = &rt;
-    let alloc = rt.alloc();
-    has_bytes(rt, lasting(alloc, 25), false);
-    has_bytes(
-        rt,
-        value_of(alloc, ascii_text(25)).expect(rt, "memory"),
-        false,
-    );
-    has_bytes(rt, with_room(alloc, 25).expect(rt, "memory"), false);
-    has_bytes(rt, lasting(alloc, 24), true);
-    has_bytes(
-        rt,
-        value_of(alloc, ascii_text(24)).expect(rt, "memory"),
-        true,
-    );
 }
 
 #[test]
 fn bytes_of_a_text_are_read(rt: HostRuntime) {
     let rt = &rt;
     let alloc = rt.alloc();
-    assert_inline(rt, &read(rt, alloc, &[0x61; 24]), ascii_text(24));
+    assert_that!(rt, is_inline(&read(rt, alloc, &[0x61; 24]), ascii_text(24)));
     let mut row = [0xFF; 24];
     row[0] = 0x61;
     row[23] = 0xC1;
-    assert_inline(rt, &read(rt, alloc, &row), "a");
+    assert_that!(rt, is_inline(&read(rt, alloc, &row), "a"));
     row[23] = 0xC0;
-    assert_inline(rt, &read(rt, alloc, &row), "");
+    assert_that!(rt, is_inline(&read(rt, alloc, &row), ""));
 }
 
 #[test]
@@ -126,43 +102,12 @@ fn invalid_bytes_are_rejected(rt: HostRuntime) {
         let mut row = [0; 24];
         row[0] = first;
         row[23] = last;
-        assert_that(&rt, CompactString::from_packed(alloc, &row).is_none());
+        assert_that!(&rt, CompactString::from_packed(alloc, &row).is_none());
     }
-    assert_that(
+    assert_that!(
         &rt,
         CompactString::from_packed(alloc, &[0x80; 24]).is_none(),
     );
-}
-
-#[test]
-fn each_length_is_packed(rt: HostRuntime) {
-    let rt = &rt;
-    let alloc = rt.alloc();
-    let mut value = CompactString::default(alloc);
-    is_packed_anew(rt, alloc, &value);
-    for count in 0..24u8 {
-        value
-            .push_str(
-                "abcdefghijklmnopqrstuvwx"
-                    .get(count as usize..count as usize + 1)
-                    .unwrap_or(""),
-            )
-            .expect(rt, "memory");
-        is_packed_anew(rt, alloc, &value);
-    }
-    assert_inline(rt, &value, "abcdefghijklmnopqrstuvwx");
-}
-
-#[test]
-fn each_length_is_cut(rt: HostRuntime) {
-    let rt = &rt;
-    let alloc = rt.alloc();
-    let mut value = value_of(alloc, "abcdefghijklmnopqrstuvwx").expect(rt, "memory");
-    for _ in 0..24u8 {
-        assert_that(rt, value.pop().is_some());
-        is_packed_anew(rt, alloc, &value);
-    }
-    assert_inline(rt, &value, "");
 }
 
 #[test]
@@ -175,7 +120,7 @@ fn bytes_after_the_text_are_ignored(rt: HostRuntime) {
             row[place] = 0x61;
         }
         let value = read(&rt, alloc, &row);
-        assert_inline(&rt, &value, ascii_text(count as usize));
+        assert_that!(&rt, is_inline(&value, ascii_text(count as usize)));
         is_packed_anew(&rt, alloc, &value);
     }
 }
@@ -183,7 +128,7 @@ fn bytes_after_the_text_are_ignored(rt: HostRuntime) {
 /// Wipes a value, and asserts the bytes of the empty text.
 fn assert_zeroized(rt: &impl Abort, alloc: Global, mut value: CompactString) {
     value.zeroize();
-    assert_inline(rt, &value, "");
+    assert_that!(rt, is_inline(&value, ""));
     let row = b"\0\0\0\0\0\0\0\0\0\0\0\0\0\0\0\0\0\0\0\0\0\0\0\xC0";
     assert_packed_bytes(rt, &value, row);
     append(&mut value, "ab").expect(rt, "memory");

@@ -1,9 +1,8 @@
 //! Removing and changing parts of a text.
 
-use crate::asserts::{assert_equal, assert_heap, assert_inline, assert_that};
-use compact_asserts::{that, that_for};
+use compact_asserts::{assert_equal, assert_that, that, that_for};
 use compact_str::{CompactString, Drain, Standard};
-use compact_testing::checks::is_at;
+use compact_testing::checks::{is_at, is_heap, is_inline};
 use compact_testing::values::{place_of, short, value_of};
 use std::ops::Bound;
 use std::ops::Bound::{Excluded, Included, Unbounded};
@@ -37,26 +36,19 @@ fn assert_drained(
     let (place, capacity) = (place_of(value), value.capacity());
     let count = end.saturating_sub(start);
     let mut drained = drain(rt, value, Included(start), Excluded(end));
-    assert_that(rt, drained.size_hint() == (count.div_ceil(4), Some(count)));
-    assert_equal(rt, drained.next(), Some(first));
-    assert_equal(rt, drained.next_back(), Some(last));
-    assert_equal(rt, drained.as_str(), rest);
+    assert_that!(rt, drained.size_hint() == (count.div_ceil(4), Some(count)));
+    assert_equal!(rt, drained.next(), Some(first));
+    assert_equal!(rt, drained.next_back(), Some(last));
+    assert_equal!(rt, drained.as_str(), rest);
     drop(drained);
-    assert_that(rt, is_at(value, place, capacity, left));
+    assert_that!(rt, is_at(value, place, capacity, left));
 }
 
 #[test]
 fn a_drain_returns_characters_from_both_ends(rt: HostRuntime) {
     let mut value = short(rt.alloc(), "Hello, world!");
     assert_drained(&rt, &mut value, (5, 12), (',', " worl", 'd'), "Hello!");
-    assert_inline(&rt, &value, "Hello!");
-}
-
-#[test]
-fn a_drain_is_counted(rt: HostRuntime) {
-    let mut value = short(rt.alloc(), "Hello, world!");
-    assert_equal(&rt, greeted(&rt, &mut value).as_str().chars().count(), 7);
-    assert_inline(&rt, &value, "Hello!");
+    assert_that!(&rt, is_inline(&value, "Hello!"));
 }
 
 /// Counts the drained characters. The length of what is left shows the proof that the count fits.
@@ -70,8 +62,8 @@ fn drained_count(rt: &impl Abort, value: &mut CompactString) -> usize {
 #[test]
 fn a_drain_counts_what_is_left(rt: HostRuntime) {
     let mut value = short(rt.alloc(), "Hello, world!");
-    assert_equal(&rt, drained_count(&rt, &mut value), 7);
-    assert_inline(&rt, &value, "Hello!");
+    assert_equal!(&rt, drained_count(&rt, &mut value), 7);
+    assert_that!(&rt, is_inline(&value, "Hello!"));
 }
 
 #[test]
@@ -79,24 +71,24 @@ fn a_drain_shows_what_is_left(rt: HostRuntime) {
     let rt = &rt;
     let mut value = short(rt.alloc(), "Hello, world!");
     let mut drained = greeted(rt, &mut value);
-    assert_equal(rt, drained.next(), Some(','));
-    assert_equal(rt, drained.as_str(), " world");
+    assert_equal!(rt, drained.next(), Some(','));
+    assert_equal!(rt, drained.as_str(), " world");
     drop(drained);
-    assert_inline(rt, &value, "Hello!");
+    assert_that!(rt, is_inline(&value, "Hello!"));
 }
 
 #[test]
 fn the_last_of_a_drain_is_its_last(rt: HostRuntime) {
     let mut value = short(rt.alloc(), "Hello, world!");
-    assert_equal(&rt, greeted(&rt, &mut value).last(), Some('d'));
-    assert_inline(&rt, &value, "Hello!");
+    assert_equal!(&rt, greeted(&rt, &mut value).last(), Some('d'));
+    assert_that!(&rt, is_inline(&value, "Hello!"));
 }
 
 #[test]
 fn the_last_of_a_drain_from_the_back_is_its_first(rt: HostRuntime) {
     let mut value = short(rt.alloc(), "Hello, world!");
-    assert_equal(&rt, greeted(&rt, &mut value).rev().last(), Some(','));
-    assert_inline(&rt, &value, "Hello!");
+    assert_equal!(&rt, greeted(&rt, &mut value).rev().last(), Some(','));
+    assert_that!(&rt, is_inline(&value, "Hello!"));
 }
 
 #[test]
@@ -105,9 +97,9 @@ fn a_drain_prints_what_is_left(rt: HostRuntime) {
     let mut value = short(alloc, "Hello, world!");
     let mut printed = short(alloc, "");
     let drained = greeted(&rt, &mut value);
-    assert_that(&rt, write!(printed, "{drained:>9}{drained:?}").is_ok());
+    assert_that!(&rt, write!(printed, "{drained:>9}{drained:?}").is_ok());
     drop(drained);
-    assert_inline(&rt, &printed, ", worldDrain(\", world\")");
+    assert_that!(&rt, is_inline(&printed, ", worldDrain(\", world\")"));
 }
 
 #[test]
@@ -116,9 +108,9 @@ fn the_debug_of_a_drain_escapes(rt: HostRuntime) {
     let mut value = short(alloc, "a\"b\nc");
     let mut printed = short(alloc, "");
     let drained = drain(&rt, &mut value, Included(1), Excluded(4));
-    assert_that(&rt, write!(printed, "{drained:?}").is_ok());
+    assert_that!(&rt, write!(printed, "{drained:?}").is_ok());
     drop(drained);
-    assert_inline(&rt, &printed, "Drain(\"\\\"b\\n\")");
+    assert_that!(&rt, is_inline(&printed, "Drain(\"\\\"b\\n\")"));
 }
 
 #[test]
@@ -142,7 +134,7 @@ fn the_ends_of_a_drain_meet(rt: HostRuntime) {
         that_for(step, given == wanted).expect(rt, "it holds");
     }
     drop(drained);
-    assert_inline(rt, &value, "");
+    assert_that!(rt, is_inline(&value, ""));
 }
 
 #[test]
@@ -150,11 +142,11 @@ fn a_drain_of_a_long_text_returns_its_characters(rt: HostRuntime) {
     let rt = &rt;
     let alloc = rt.alloc();
     let mut value = value_of(alloc, "abcdefghijklmnopqrstuvwxyzABCD").expect(rt, "memory");
-    assert_that(rt, value.is_heap_allocated());
+    assert_that!(rt, value.is_heap_allocated());
     let taken = ('c', "defghijklmnopqrstuvwxyzA", 'B');
     assert_drained(rt, &mut value, (2, 28), taken, "abCD");
     let mut value = value_of(alloc, "aéaéaéaéaéaéaéaéaé€").expect(rt, "memory");
-    assert_that(rt, value.is_heap_allocated());
+    assert_that!(rt, value.is_heap_allocated());
     let taken = ('é', "aéaéaéaéaéaéaéaé", '€');
     assert_drained(rt, &mut value, (1, 30), taken, "a");
 }
@@ -167,9 +159,9 @@ fn retain_calls_its_closure_once_for_each_character(rt: HostRuntime) {
         asked = asked.saturating_add(1);
         character != 'ä' && character != 'd'
     });
-    assert_that(&rt, kept.is_ok());
-    assert_equal(&rt, asked, 5);
-    assert_inline(&rt, &value, "b𝄞€");
+    assert_that!(&rt, kept.is_ok());
+    assert_equal!(&rt, asked, 5);
+    assert_that!(&rt, is_inline(&value, "b𝄞€"));
 }
 
 #[test]
@@ -183,8 +175,8 @@ fn retain_calls_its_closure_in_order_on_the_heap(rt: HostRuntime) {
         in_order = in_order && expected.next() == Some(character);
         !character.is_ascii()
     });
-    assert_that(rt, kept.is_ok());
-    assert_that(rt, in_order);
-    assert_equal(rt, expected.next(), None);
-    assert_heap(rt, &value, 37, "äö€𝄞");
+    assert_that!(rt, kept.is_ok());
+    assert_that!(rt, in_order);
+    assert_equal!(rt, expected.next(), None);
+    assert_that!(rt, is_heap(&value, 37, "äö€𝄞"));
 }

@@ -1,10 +1,9 @@
 //! Checks that take ownership of a result: a test that owned it would be costly to prove.
 
-use crate::asserts::assert_equal;
-use compact_asserts::that_for;
+use compact_asserts::{assert_equal, that_for};
 use compact_str::CompactString;
 use compact_testing::checks::is_inline;
-use std::alloc::{AllocError, Global};
+use std::alloc::AllocError;
 use std::process::Abort;
 
 /// Asserts that this short text was made, inline.
@@ -14,16 +13,5 @@ pub fn assert_made_inline<E: Drop>(rt: &impl Abort, made: Result<CompactString, 
 
 /// Asserts the result of a format.
 pub fn assert_shown(rt: &impl Abort, made: Result<String, AllocError>, text: &str) {
-    assert_equal(rt, made.expect(rt, "memory").as_str(), text);
-}
-
-/// Creates values from literals.
-pub fn values_of(rt: &impl Abort, alloc: Global, texts: &[&'static str]) -> Vec<CompactString> {
-    let mut values = Vec::new(alloc);
-    for text in texts {
-        values
-            .push(CompactString::const_new(alloc, text))
-            .expect(rt, "memory");
-    }
-    values
+    assert_equal!(rt, made.expect(rt, "memory").as_str(), text);
 }

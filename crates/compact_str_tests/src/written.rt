@@ -1,8 +1,8 @@
 //! `write!`, `writeln!`, `write` and `writeln`: the text appended, and the value on `Err`.
 
-use crate::asserts::{assert_equal, assert_heap, assert_inline, assert_that};
+use compact_asserts::{assert_equal, assert_that};
 use compact_str::{CompactString, ReserveError};
-use compact_testing::checks::is_static;
+use compact_testing::checks::{is_heap, is_inline, is_static};
 use compact_testing::values::{ascii_text, lasting, short};
 use std::fmt;
 use std::fmt::Display;
@@ -28,13 +28,13 @@ fn what_is_shown_is_appended(rt: HostRuntime) {
     let rt = &rt;
     let mut line = short(rt.alloc(), "§ ");
     write_count(&mut line, "größe", 12).expect(rt, "memory");
-    assert_inline(rt, &line, "§ größe: 12");
+    assert_that!(rt, is_inline(&line, "§ größe: 12"));
     line.write('é').expect(rt, "memory");
-    assert_inline(rt, &line, "§ größe: 12é");
+    assert_that!(rt, is_inline(&line, "§ größe: 12é"));
     line.writeln(7).expect(rt, "memory");
-    assert_inline(rt, &line, "§ größe: 12é7\n");
+    assert_that!(rt, is_inline(&line, "§ größe: 12é7\n"));
     writeln!(line, "{}", "€").expect(rt, "memory");
-    assert_inline(rt, &line, "§ größe: 12é7\n€\n");
+    assert_that!(rt, is_inline(&line, "§ größe: 12é7\n€\n"));
 }
 
 #[test]
@@ -43,12 +43,12 @@ fn a_write_grows_once_as_an_append_does(rt: HostRuntime) {
     let alloc = rt.alloc();
     let mut full = short(alloc, ascii_text(24));
     write!(full, "{}{}", 'a', "aaaaaaaaaa").expect(rt, "memory");
-    assert_heap(rt, &full, 36, ascii_text(35));
+    assert_that!(rt, is_heap(&full, 36, ascii_text(35)));
     let mut text = lasting(alloc, 30);
     write!(text, "{}", "").expect(rt, "memory");
-    assert_that(rt, is_static(&text, ascii_text(30)));
+    assert_that!(rt, is_static(&text, ascii_text(30)));
     write!(text, "{}", 'a').expect(rt, "memory");
-    assert_heap(rt, &text, 45, ascii_text(31));
+    assert_that!(rt, is_heap(&text, 45, ascii_text(31)));
 }
 
 #[test]
@@ -56,10 +56,10 @@ fn more_than_1024_bytes_are_written(rt: HostRuntime) {
     let rt = &rt;
     let mut line = short(rt.alloc(), "ä");
     write!(line, "{:>1100}{:>1100}", 7, 'é').expect(rt, "memory");
-    assert_equal(rt, line.len(), 2203);
-    assert_that(rt, line.starts_with("ä "));
-    assert_that(rt, line.ends_with(" é"));
-    assert_equal(rt, line.find('7'), Some(1101));
+    assert_equal!(rt, line.len(), 2203);
+    assert_that!(rt, line.starts_with("ä "));
+    assert_that!(rt, line.ends_with(" é"));
+    assert_equal!(rt, line.find('7'), Some(1101));
 }
 
 #[test]
@@ -67,10 +67,10 @@ fn a_write_that_fails_by_itself_changes_nothing(rt: HostRuntime) {
     let rt = &rt;
     let alloc = rt.alloc();
     let mut line = short(alloc, "ä");
-    assert_equal(rt, write!(line, "b{}", Half), Err(ReserveError));
-    assert_equal(rt, line.writeln(Half), Err(ReserveError));
-    assert_inline(rt, &line, "ä");
+    assert_equal!(rt, write!(line, "b{}", Half), Err(ReserveError));
+    assert_equal!(rt, line.writeln(Half), Err(ReserveError));
+    assert_that!(rt, is_inline(&line, "ä"));
     let mut text = lasting(alloc, 30);
-    assert_equal(rt, text.write(Half), Err(ReserveError));
-    assert_that(rt, is_static(&text, ascii_text(30)));
+    assert_equal!(rt, text.write(Half), Err(ReserveError));
+    assert_that!(rt, is_static(&text, ascii_text(30)));
 }

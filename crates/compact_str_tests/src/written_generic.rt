@@ -1,7 +1,8 @@
 //! `fmt::Write`, when imported, serves generic code; a value's own methods take precedence.
 
-use crate::asserts::assert_inline;
+use compact_asserts::assert_that;
 use compact_str::{CompactString, ReserveError};
+use compact_testing::checks::is_inline;
 use compact_testing::values::short;
 use std::fmt;
 use std::fmt::Write;
@@ -21,5 +22,5 @@ fn a_value_is_written_to_with_the_import(rt: HostRuntime) {
     let mut line = short(rt.alloc(), "ä");
     write_mark(&mut line).expect(&rt, "memory");
     write_own_mark(&mut line).expect(&rt, "memory");
-    assert_inline(&rt, &line, "ä12!12?");
+    assert_that!(&rt, is_inline(&line, "ä12!12?"));
 }

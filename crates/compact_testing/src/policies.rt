@@ -1,4 +1,6 @@
 //! Growth policies of users: one that doubles, one that grows slowly, and one with a large minimum.
+ghost use Rattle.std.proofs.Common.{refl};
+ghost use Rattle.compact_str.specs.Policies.{IsLawful-test};
 
 use compact_str::Policy;
 
@@ -6,9 +8,6 @@ use compact_str::Policy;
 pub struct Double;
 
 impl Policy for Double {
-    ghost use Rattle.std.proofs.Common.{refl};
-    ghost use Rattle.compact_str.specs.Policies.{IsLawful-test};
-
     const MIN_HEAP: usize = 32;
 
     const NUM: usize = 2;
@@ -32,9 +31,6 @@ impl Policy for Double {
 pub struct Slow;
 
 impl Policy for Slow {
-    ghost use Rattle.std.proofs.Common.{refl};
-    ghost use Rattle.compact_str.specs.Policies.{IsLawful-test};
-
     const MIN_HEAP: usize = 25;
 
     const NUM: usize = 5;
@@ -58,9 +54,6 @@ impl Policy for Slow {
 pub struct Large;
 
 impl Policy for Large {
-    ghost use Rattle.std.proofs.Common.{refl};
-    ghost use Rattle.compact_str.specs.Policies.{IsLawful-test};
-
     const MIN_HEAP: usize = 4096;
 
     const NUM: usize = 3;

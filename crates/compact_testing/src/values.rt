@@ -23,6 +23,19 @@ pub fn short(alloc: Global, text: &'static str) -> CompactString {
     CompactString::const_new(alloc, text)
 }
 
+/// Creates values from literals.
+///
+/// # Errors
+///
+/// `AllocError` if the list cannot be allocated.
+pub fn values_of(alloc: Global, texts: &[&'static str]) -> Result<Vec<CompactString>, AllocError> {
+    let mut values = Vec::new(alloc);
+    for text in texts {
+        values.push(CompactString::const_new(alloc, text))?;
+    }
+    Ok(values)
+}
+
 /// Creates a value with this text.
 ///
 /// # Errors

@@ -6,8 +6,6 @@ ghost use Rattle.compact_str.specs.Words.{INLINE_CAPACITY};
 
 use crate::format::ToCompactStringError;
 use crate::to_compact_string::ToCompactString;
-use crate::to_compact_string::int128::format_by_itoa;
-use crate::to_compact_string::integers::{signed, unsigned};
 use compact_str::CompactString;
 use std::alloc::Global;
 use std::num::{
@@ -23,7 +21,7 @@ impl ToCompactString for NonZeroU8 {
     #[inline]
     fn to_compact_string(&self, alloc: Global) -> Result<CompactString, ToCompactStringError> {
         let n: u8 = self.get();
-        unsigned(alloc, u64::from(n))
+        n.to_compact_string(alloc)
     }
 }
 
@@ -35,7 +33,7 @@ impl ToCompactString for NonZeroU16 {
     #[inline]
     fn to_compact_string(&self, alloc: Global) -> Result<CompactString, ToCompactStringError> {
         let n: u16 = self.get();
-        unsigned(alloc, u64::from(n))
+        n.to_compact_string(alloc)
     }
 }
 
@@ -47,7 +45,7 @@ impl ToCompactString for NonZeroU32 {
     #[inline]
     fn to_compact_string(&self, alloc: Global) -> Result<CompactString, ToCompactStringError> {
         let n: u32 = self.get();
-        unsigned(alloc, u64::from(n))
+        n.to_compact_string(alloc)
     }
 }
 
@@ -59,7 +57,7 @@ impl ToCompactString for NonZeroU64 {
     #[inline]
     fn to_compact_string(&self, alloc: Global) -> Result<CompactString, ToCompactStringError> {
         let n: u64 = self.get();
-        unsigned(alloc, n)
+        n.to_compact_string(alloc)
     }
 }
 
@@ -71,7 +69,7 @@ impl ToCompactString for NonZeroU128 {
     #[inline]
     fn to_compact_string(&self, alloc: Global) -> Result<CompactString, ToCompactStringError> {
         let n: u128 = self.get();
-        format_by_itoa(alloc, n)
+        n.to_compact_string(alloc)
     }
 }
 
@@ -83,7 +81,7 @@ impl ToCompactString for NonZeroUsize {
     #[inline]
     fn to_compact_string(&self, alloc: Global) -> Result<CompactString, ToCompactStringError> {
         let n: usize = self.get();
-        unsigned(alloc, n as u64)
+        n.to_compact_string(alloc)
     }
 }
 
@@ -95,7 +93,7 @@ impl ToCompactString for NonZeroI8 {
     #[inline]
     fn to_compact_string(&self, alloc: Global) -> Result<CompactString, ToCompactStringError> {
         let n: i8 = self.get();
-        signed(alloc, i64::from(n))
+        n.to_compact_string(alloc)
     }
 }
 
@@ -107,7 +105,7 @@ impl ToCompactString for NonZeroI16 {
     #[inline]
     fn to_compact_string(&self, alloc: Global) -> Result<CompactString, ToCompactStringError> {
         let n: i16 = self.get();
-        signed(alloc, i64::from(n))
+        n.to_compact_string(alloc)
     }
 }
 
@@ -119,7 +117,7 @@ impl ToCompactString for NonZeroI32 {
     #[inline]
     fn to_compact_string(&self, alloc: Global) -> Result<CompactString, ToCompactStringError> {
         let n: i32 = self.get();
-        signed(alloc, i64::from(n))
+        n.to_compact_string(alloc)
     }
 }
 
@@ -131,7 +129,7 @@ impl ToCompactString for NonZeroI64 {
     #[inline]
     fn to_compact_string(&self, alloc: Global) -> Result<CompactString, ToCompactStringError> {
         let n: i64 = self.get();
-        signed(alloc, n)
+        n.to_compact_string(alloc)
     }
 }
 
@@ -143,7 +141,7 @@ impl ToCompactString for NonZeroI128 {
     #[inline]
     fn to_compact_string(&self, alloc: Global) -> Result<CompactString, ToCompactStringError> {
         let n: i128 = self.get();
-        format_by_itoa(alloc, n)
+        n.to_compact_string(alloc)
     }
 }
 
@@ -155,6 +153,6 @@ impl ToCompactString for NonZeroIsize {
     #[inline]
     fn to_compact_string(&self, alloc: Global) -> Result<CompactString, ToCompactStringError> {
         let n: isize = self.get();
-        signed(alloc, n as i64)
+        n.to_compact_string(alloc)
     }
 }
