@@ -90,7 +90,7 @@ fn without_bytes(word: u64, count: usize) -> u64
 }
 
 /// Returns the second eight bytes of a text, or the fewer that follow the first eight. Reads the last eight of at most
-/// 16 bytes, and move_facts out those before the eighth.
+/// 16 bytes, and shifts out those before the eighth.
 #[inline(always)]
 pub fn second_word(text: &[u8]) -> u64
     requires { 8 ≤ length text.now }

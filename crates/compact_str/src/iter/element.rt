@@ -10,6 +10,9 @@ use crate::stack_buffer::{PaddedStr, StackBuffer};
 use crate::string::PolicyString;
 use compact_repr::Policy;
 
+/// The longest text that goes to the short block. A longer one would mostly be copied to the long block after it.
+const MAX_BLOCK_PIECE: usize = 64;
+
 /// A text or a character, which is appended as a whole.
 pub trait Element: Drop {
     // The characters.
@@ -62,16 +65,24 @@ impl<T: AsText> Element for T {
 
     #[inline]
     fn try_push_to_block(&self, block: &mut StackBuffer<SHOWN>) -> bool {
-        block.try_push_str(self.text())
+        let text = self.text();
+        if text.len() > MAX_BLOCK_PIECE {
+            return false;
+        }
+        block.try_push_str(text)
     }
 
     #[inline]
+    #[tactic(auto, using(crate::proofs::CollectFacts::builder_facts, compact_text::proofs::Texts::empty_text))]
     fn push_separated<P: Policy>(
         &self,
         gathered: &mut Builder<P, COLLECTED>,
         separator: &str,
         padded: &Option<PaddedStr>,
     ) -> Result<(), ReserveError> {
+        if separator.is_empty() {
+            return gathered.push_str(self.text());
+        }
         gathered.push_separated(separator, padded, self.text())
     }
 }
