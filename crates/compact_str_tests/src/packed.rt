@@ -83,6 +83,24 @@ fn the_last_byte_of_24_is_of_the_text_or_its_length(rt: HostRuntime) {
 }
 
 #[test]
+fn a_static_value_has_no_bytes(rt: HostRuntime) {
+    assert_that!(&rt, lasting(rt.alloc(), 25).packed().is_none());
+}
+
+#[test]
+fn each_length_is_packed(rt: HostRuntime) {
+    let rt = &rt;
+    let alloc = rt.alloc();
+    let mut value = CompactString::default(alloc);
+    is_packed_anew(rt, alloc, &value);
+    for letter in "abcdefghijklmnopqrstuvwx".chars() {
+        value.push(letter).expect(rt, "memory");
+        is_packed_anew(rt, alloc, &value);
+    }
+    assert_equal!(rt, value.as_str(), "abcdefghijklmnopqrstuvwx");
+}
+
+#[test]
 fn bytes_of_a_text_are_read(rt: HostRuntime) {
     let rt = &rt;
     let alloc = rt.alloc();
