@@ -167,6 +167,8 @@ def copy_of_all(folder):
 
 
 def main(names):
+    # So that what is known is in a file too, if a long run is ended.
+    sys.stdout.reconfigure(line_buffering=True)
     tasks = [(name, bodies) for name in names or sorted(os.listdir(f"{ROOT}/crates")) for bodies in files_of_bodies(name)]
     for name in sorted({name for name, _ in tasks}):
         if check(f"{ROOT}/crates/{name}", JOBS)[1]:
