@@ -1,5 +1,6 @@
 -- Worked examples of names and their numbers.
-use Rattle.std.proofs.Common.{◌≡◌, ℕ, List, [], ◌∷◌, None, slice_get, refl}
+use Rattle.std.proofs.Common.{◌≡◌, ℕ, ◌-◌, ◌^◌, List, [], ◌∷◌, None, slice_get, refl}
+use Rattle.compact_edit.specs.declared.intern.TheConstants.{MAX_COUNT}
 use Rattle.compact_edit.specs.Names.{distinct_texts, AreNumbersOf, InternsAll}
 
 abbrev a : List ℕ
@@ -7,6 +8,10 @@ a = 97 ∷ []
 
 abbrev b : List ℕ
 b = 98 ∷ []
+
+-- a number has 32 bits
+most-names : MAX_COUNT ≡ 2 ^ 32 - 1
+most-names = refl
 
 -- each text is a name once, at its first occurrence; names are not sorted
 names-once : distinct_texts (a ∷ b ∷ a ∷ [] ∷ []) ≡ a ∷ b ∷ [] ∷ []
