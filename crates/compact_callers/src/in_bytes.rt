@@ -1,6 +1,7 @@
 //! Contracts stated in bytes, as those of `String` are.
 ghost use Rattle.std.specs.Prelude.{◌≡◌, ◌≤◌, ℕ, ◌++◌, codes, decimal, OnOk, IfOk, OnErr, take, drop, flat_map};
 ghost use Rattle.std.specs.Char.{encode_utf8};
+ghost use Rattle.std.specs.Str.{str_to_ascii_lowercase, str_to_ascii_uppercase};
 ghost use Rattle.std.specs.Str.Replace.{ReplacesMatches};
 ghost use Rattle.std.specs.Cow.{cow_str_bytes};
 ghost use Rattle.compact_str.specs.Text.{utf8};
@@ -111,6 +112,39 @@ pub fn port_part(alloc: Global, port: u16) -> Result<CompactString, ToCompactStr
     let digits = port.to_compact_string(alloc)?;
     part.push_str(digits.as_str())?;
     Ok(part)
+}
+
+/// Appends a field, as `name=number`.
+#[tactic(auto, using(compact_str::proofs::ForCallers::caller_facts, compact_str::proofs::ForCallers::byte_facts))]
+pub fn append_number_field(
+    alloc: Global,
+    line: &mut CompactString,
+    name: &str,
+    number: u32,
+) -> Result<(), ToCompactStringError>
+    ensures { OnOk result
+        (utf8 line.new.text ≡ utf8 line.old.text ++ (name.now ++ (codes "=" ++ decimal number))) }
+{
+    line.push_str(name)?;
+    line.push('=')?;
+    line.push_str(number.to_compact_string(alloc)?.as_str())?;
+    Ok(())
+}
+
+/// Converts a line to lower case.
+#[tactic(auto, using(compact_str::proofs::ForCallers::byte_facts))]
+pub fn lower(line: &mut CompactString) -> Result<(), ReserveError>
+    ensures { OnOk result (utf8 line.new.text ≡ str_to_ascii_lowercase (utf8 line.old.text)) }
+{
+    line.make_ascii_lowercase()
+}
+
+/// Returns a copy of a line in upper case.
+#[tactic(auto, using(compact_str::proofs::ForCallers::byte_facts))]
+pub fn upper_copy(line: &CompactString) -> Result<CompactString, ReserveError>
+    ensures { IfOk result (λ v. utf8 v.text ≡ str_to_ascii_uppercase (utf8 line.now.text)) }
+{
+    line.to_ascii_uppercase()
 }
 
 /// Joins names in one line.
