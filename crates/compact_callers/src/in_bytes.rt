@@ -4,7 +4,7 @@ ghost use Rattle.std.specs.Char.{encode_utf8};
 ghost use Rattle.std.specs.Str.{str_to_ascii_lowercase, str_to_ascii_uppercase};
 ghost use Rattle.std.specs.Str.Replace.{ReplacesMatches};
 ghost use Rattle.std.specs.Cow.{cow_str_bytes};
-ghost use Rattle.compact_str.specs.Text.{utf8};
+ghost use Rattle.compact_str.specs.Text.{text_of, utf8};
 ghost use Rattle.compact_str.specs.Cut.{IsBoundary};
 ghost use Rattle.compact_str.specs.Collect.{join};
 
@@ -158,6 +158,15 @@ pub fn names_in_line(
         (λ v. utf8 v.text ≡ join separator.now (λ name. utf8 name.text) names.now) }
 {
     names.iter().join_compact(alloc, separator)
+}
+
+/// Joins the parts of a path. `text_of` decodes each part: that the parts of a slice are valid UTF-8 is not known there.
+#[tactic(auto, using(compact_str::proofs::ForCallers::caller_facts))]
+pub fn path_of_parts(alloc: Global, parts: &[&str]) -> Result<CompactString, ReserveError>
+    ensures { IfOk result
+        (λ v. utf8 v.text ≡ join (codes "/") (λ part. utf8 (text_of part.now)) parts.now) }
+{
+    parts.iter().copied().join_compact(alloc, "/")
 }
 
 /// Concatenates names.

@@ -4,7 +4,8 @@ use crate::asserts::assert_that;
 use compact_asserts::that;
 use compact_callers::in_bytes::{
     append_both, append_number_field, concatenated_names, entry, greeting, heading, lower, mark_at,
-    marked, names_in_line, overwrite, port_part, port_text, shorten, upper_copy, with_semicolons,
+    marked, names_in_line, overwrite, path_of_parts, port_part, port_text, shorten, upper_copy,
+    with_semicolons,
 };
 use compact_testing::checks::{is_heap, is_inline};
 use compact_testing::values::short;
@@ -39,6 +40,8 @@ fn names_are_joined(rt: HostRuntime) {
     assert_that(rt, is_inline(&line, "ä→→b"));
     let row = concatenated_names(alloc, &names).expect(rt, "memory");
     assert_that(rt, is_inline(&row, "äb"));
+    let path = path_of_parts(alloc, &["usr", "", "ä"]).expect(rt, "memory");
+    assert_that(rt, is_inline(&path, "usr//ä"));
 }
 
 #[test]
