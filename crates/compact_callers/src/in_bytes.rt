@@ -1,9 +1,10 @@
 //! Contracts stated in bytes, as those of `String` are.
 ghost use Rattle.std.specs.Prelude.{◌≡◌, ◌≤◌, ℕ, ◌++◌, codes, decimal, OnOk, IfOk, OnErr, take, drop, flat_map};
 ghost use Rattle.std.specs.Char.{encode_utf8};
+ghost use Rattle.std.specs.Str.{str_to_ascii_lowercase, str_to_ascii_uppercase};
 ghost use Rattle.std.specs.Str.Replace.{ReplacesMatches};
 ghost use Rattle.std.specs.Cow.{cow_str_bytes};
-ghost use Rattle.compact_str.specs.Text.{utf8};
+ghost use Rattle.compact_str.specs.Text.{text_of, utf8};
 ghost use Rattle.compact_str.specs.Cut.{IsBoundary};
 ghost use Rattle.compact_str.specs.Collect.{join};
 
@@ -113,6 +114,39 @@ pub fn port_part(alloc: Global, port: u16) -> Result<CompactString, ToCompactStr
     Ok(part)
 }
 
+/// Appends a field, as `name=number`.
+#[tactic(auto, using(compact_str::proofs::ForCallers::caller_facts, compact_str::proofs::ForCallers::byte_facts))]
+pub fn append_number_field(
+    alloc: Global,
+    line: &mut CompactString,
+    name: &str,
+    number: u32,
+) -> Result<(), ToCompactStringError>
+    ensures { OnOk result
+        (utf8 line.new.text ≡ utf8 line.old.text ++ (name.now ++ (codes "=" ++ decimal number))) }
+{
+    line.push_str(name)?;
+    line.push('=')?;
+    line.push_str(number.to_compact_string(alloc)?.as_str())?;
+    Ok(())
+}
+
+/// Converts a line to lower case.
+#[tactic(auto, using(compact_str::proofs::ForCallers::byte_facts))]
+pub fn lower(line: &mut CompactString) -> Result<(), ReserveError>
+    ensures { OnOk result (utf8 line.new.text ≡ str_to_ascii_lowercase (utf8 line.old.text)) }
+{
+    line.make_ascii_lowercase()
+}
+
+/// Returns a copy of a line in upper case.
+#[tactic(auto, using(compact_str::proofs::ForCallers::byte_facts))]
+pub fn upper_copy(line: &CompactString) -> Result<CompactString, ReserveError>
+    ensures { IfOk result (λ v. utf8 v.text ≡ str_to_ascii_uppercase (utf8 line.now.text)) }
+{
+    line.to_ascii_uppercase()
+}
+
 /// Joins names in one line.
 #[tactic(auto, using(compact_str::proofs::ForCallers::caller_facts))]
 pub fn names_in_line(
@@ -124,6 +158,15 @@ pub fn names_in_line(
         (λ v. utf8 v.text ≡ join separator.now (λ name. utf8 name.text) names.now) }
 {
     names.iter().join_compact(alloc, separator)
+}
+
+/// Joins the parts of a path. `text_of` decodes each part: that the parts of a slice are valid UTF-8 is not known there.
+#[tactic(auto, using(compact_str::proofs::ForCallers::caller_facts))]
+pub fn path_of_parts(alloc: Global, parts: &[&str]) -> Result<CompactString, ReserveError>
+    ensures { IfOk result
+        (λ v. utf8 v.text ≡ join (codes "/") (λ part. utf8 (text_of part.now)) parts.now) }
+{
+    parts.iter().copied().join_compact(alloc, "/")
 }
 
 /// Concatenates names.

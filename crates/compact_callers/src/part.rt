@@ -1,12 +1,21 @@
 //! Splitting a text and formatting one. Each contract names the parts.
 #![tactic(auto, using(compact_str::proofs::ForCallers::caller_facts, compact_str::proofs::PartFacts::part_facts))]
 
-ghost use Rattle.std.specs.Prelude.{◌≡◌, ◌≢◌, ◌↔◌, ◌++◌, IfSome, OnOk, OnErr, IsTrue, Some, true, false, codes, decimal, slice_get};
+ghost use Rattle.std.specs.Prelude.{◌≡◌, ◌≢◌, ◌↔◌, ◌++◌, IfSome, OnOk, OnErr, IsTrue, Some, true, false, codes, decimal, slice_get, length, ◌==◌};
+ghost use Rattle.std.specs.List.{slice_split};
 ghost use Rattle.std.specs.Str.{trim};
 ghost use Rattle.compact_str.specs.Text.{text_of, utf8};
 ghost use Rattle.compact_str.specs.Ranges.{IsBetweenWhitespace};
 
 use compact_str::{CompactString, ReserveError};
+
+/// Counts the fields of a line, between the commas.
+#[tactic(auto, using(compact_str::proofs::PartFacts::split_facts))]
+pub fn field_count(line: &str) -> usize
+    ensures { result ≡ length (slice_split (λ byte. byte == 44) line.now) }
+{
+    line.split(',').count()
+}
 
 /// Appends an address. Its contract joins from the right, as a formatter does.
 #[tactic(auto, using(compact_str::proofs::ForCallers::caller_facts))]

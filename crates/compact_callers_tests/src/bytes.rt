@@ -3,8 +3,9 @@
 use crate::asserts::assert_that;
 use compact_asserts::that;
 use compact_callers::in_bytes::{
-    append_both, concatenated_names, entry, greeting, heading, mark_at, marked, names_in_line,
-    overwrite, port_part, port_text, shorten, with_semicolons,
+    append_both, append_number_field, concatenated_names, entry, greeting, heading, lower, mark_at,
+    marked, names_in_line, overwrite, path_of_parts, port_part, port_text, shorten, upper_copy,
+    with_semicolons,
 };
 use compact_testing::checks::{is_heap, is_inline};
 use compact_testing::values::short;
@@ -39,6 +40,8 @@ fn names_are_joined(rt: HostRuntime) {
     assert_that(rt, is_inline(&line, "ä→→b"));
     let row = concatenated_names(alloc, &names).expect(rt, "memory");
     assert_that(rt, is_inline(&row, "äb"));
+    let path = path_of_parts(alloc, &["usr", "", "ä"]).expect(rt, "memory");
+    assert_that(rt, is_inline(&path, "usr//ä"));
 }
 
 #[test]
@@ -57,4 +60,23 @@ fn texts_are_changed(rt: HostRuntime) {
     that(line.is_char_boundary(3)).expect(rt, "a boundary");
     shorten(&mut line, 3);
     assert_that(rt, is_inline(&line, "ä!"));
+}
+
+#[test]
+fn a_field_is_appended(rt: HostRuntime) {
+    let rt = &rt;
+    let alloc = rt.alloc();
+    let mut line = short(alloc, "§ ");
+    append_number_field(alloc, &mut line, "größe", 40).expect(rt, "memory");
+    assert_that(rt, is_inline(&line, "§ größe=40"));
+}
+
+#[test]
+fn ascii_case_is_changed(rt: HostRuntime) {
+    let rt = &rt;
+    let mut line = short(rt.alloc(), "ÄBc[`{z");
+    lower(&mut line).expect(rt, "memory");
+    assert_that(rt, is_inline(&line, "Äbc[`{z"));
+    let line = upper_copy(&line).expect(rt, "memory");
+    assert_that(rt, is_inline(&line, "ÄBC[`{Z"));
 }

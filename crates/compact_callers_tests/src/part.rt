@@ -2,11 +2,19 @@
 
 use crate::asserts::{assert_equal, assert_that};
 use compact_callers::part::{
-    append_address, append_line, append_request, append_shown, append_whole_address, first_of,
-    first_two_bytes, is_abc, is_encoding_header, is_not_naive, key_and_value, number_and_name,
-    sides_of_arrow, sides_of_dash, trimmed, unmarked, yes_or_no,
+    append_address, append_line, append_request, append_shown, append_whole_address, field_count,
+    first_of, first_two_bytes, is_abc, is_encoding_header, is_not_naive, key_and_value,
+    number_and_name, sides_of_arrow, sides_of_dash, trimmed, unmarked, yes_or_no,
 };
 use compact_testing::values::{short, value_of};
+
+#[test]
+fn fields_are_counted(rt: HostRuntime) {
+    let rt = &rt;
+    assert_equal(rt, field_count("ä,b,,c"), 4);
+    assert_equal(rt, field_count("ä"), 1);
+    assert_equal(rt, field_count(""), 1);
+}
 
 #[test]
 fn an_address_is_appended(rt: HostRuntime) {

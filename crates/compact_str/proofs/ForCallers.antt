@@ -8,7 +8,7 @@ use Rattle.std.proofs.Common.{subst, ◌∙◌, append_assoc, append-nil}
 pub use Rattle.std.proofs.lemmas.Str.{chars_from_encodes}
 use Rattle.std.proofs.lemmas.Str.{chars-nil, chars-append, chars_past_char, encodes-chars, encodes-IsAscii}
 use Rattle.std.proofs.lemmas.Str.{IsUtf8-string_bytes, IsUtf8-append, IsUtf8-drop, IsUtf8-from_is_utf8}
-use Rattle.std.proofs.lemmas.Str.{is_utf8-from_IsUtf8}
+use Rattle.std.proofs.lemmas.Str.{is_utf8-from_IsUtf8, encode_ascii}
 use Rattle.std.specs.Char.{len_utf8, encode_utf8}
 use Rattle.std.specs.Cmp.Lexicographic.{same_text}
 use lib.Pointwise.{pointwise}
@@ -31,6 +31,7 @@ pub use Rattle.compact_text.proofs.CutLemmas.{boundary-text, text_of-take, text_
 pub use Rattle.compact_text.proofs.CutLemmas.{size-text_before, size-text_after}
 pub use Rattle.compact_repr.proofs.PackedTexts.{one_text}
 pub use Rattle.compact_repr.proofs.ByteOrder.{utf8-same}
+pub use Rattle.compact_text.proofs.AsciiCase.{lowercase-bytes, uppercase-bytes}
 pub use Rattle.compact_str.proofs.RoomLemmas.{appended-bytes, pushed-bytes}
 pub use Rattle.compact_str.proofs.PositionLemmas.{text_before-text_before, boundary-seam, before_bytes, after_bytes}
 pub use Rattle.compact_str.proofs.PositionLemmas.{replaced-bytes, cut-bytes}
@@ -65,10 +66,13 @@ pub same-packed : (b c t s : List ℕ) (same : Bool) → IsPackedFor b t → IsP
 same-packed b c t s same p q test answer = one_text b t s p (subst (λ (x : List ℕ). IsPackedFor x s)
     (sym (same_text b c (sym answer ∙ test))) q)
 
--- the bytes of a text decoded from bytes, of an append, and of a number
+-- the bytes of a text decoded from bytes, of a pushed ASCII character and what is appended after it, and of a number
 
 pub made-bytes : (t bytes : List ℕ) → t ≡ text_of bytes → IsUtf8 bytes → utf8 t ≡ bytes
 made-bytes t bytes e u = ap utf8 e ∙ encodes-chars bytes u
+
+pub ascii-bytes : (c : ℕ) (bytes : List ℕ) → c < 128 → encode_utf8 c ++ bytes ≡ c ∷ bytes
+ascii-bytes c bytes h = ap (λ x. x ++ bytes) (encode_ascii c h)
 
 pub utf8-decimal : (n : ℕ) → n < 2 ^ 64 → utf8 (decimal n) ≡ decimal n
 utf8-decimal n h = encodes-IsAscii (decimal n) (IsAscii-decimal n h)
@@ -80,8 +84,10 @@ utf8-signed z h = encodes-IsAscii (signed_decimal z) (IsAscii-signed z h)
 pub invalid-is_utf8 : (bytes : List ℕ) → ¬ (IsUtf8 bytes) → is_utf8 bytes ≡ false
 invalid-is_utf8 bytes none = false_from_ne_true (is_utf8 bytes) (λ t. none (IsUtf8-from_is_utf8 bytes t))
 
--- clauses in characters, and most others
+-- clauses in characters, and most others. In both this set and the next, `ascii-bytes` is first: after all of these,
+-- `grind` would not come to it.
 pub ruleset caller_facts = (
+  ascii-bytes,
   length-utf8,
   utf8-text_of,
   size-text_of,
@@ -115,6 +121,7 @@ pub ruleset caller_facts = (
 -- boundaries of the
 -- bytes, and that equal bytes are equal texts. Named beside `caller_facts` or alone.
 pub ruleset byte_facts = (
+  ascii-bytes,
   encoded_facts,
   made-bytes,
   appended-bytes,
@@ -128,6 +135,8 @@ pub ruleset byte_facts = (
   after_bytes,
   replaced-bytes,
   cut-bytes,
+  lowercase-bytes,
+  uppercase-bytes,
   append_assoc,
 )
 

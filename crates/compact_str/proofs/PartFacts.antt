@@ -1,24 +1,30 @@
--- For crates that call this one: three rulesets.
+-- For crates that call this one: four rulesets.
 -- `part_facts`, beside `ForCallers::caller_facts`: the text on both sides of a character that was found, or of what
 -- `trim` returns, and what a formatter wrote, in bytes.
 -- `long_write_facts`, alone, for a `write!` of up to twelve values: with all of `caller_facts` a proof reaches its
 -- limit of
 -- instances. Past twelve pieces, values and literals together, `format_args!` nests, hence `append_assoc`.
 -- `literal_facts`, without the two: the characters of a literal of any length, and `==` with one.
+-- `split_facts`, without them: what `split` gives for an ASCII character.
 use Rattle.std.proofs.Common.{◌≡◌, ◌≢◌, ◌⊎◌, inl, inr, ℕ, List, Bool, true, false, ◌&&◌, [], ◌++◌, ◌∷◌, nat_eq, nat_lt}
-use Rattle.std.proofs.Common.{drop, take, refl, ap, sym, subst, ◌∙◌, ◌<◌, arith, append_assoc, append-nil}
+use Rattle.std.proofs.Common.{drop, take, length, map, refl, ap, sym, subst, ◌∙◌, ◌<◌, arith, append_assoc, append-nil}
 use Rattle.std.proofs.lemmas.Bool.{false≢true, ltb-true, not-false}
 use Rattle.std.proofs.lemmas.Bool.Decides.{nat_tests}
 use Rattle.std.proofs.lemmas.List.Elements.{All-nil, All-cons}
 use Rattle.std.proofs.lemmas.Str.{chars-append, chars-encodes, chars-nil, encodes-chars, chars_past_char}
 use Rattle.std.proofs.lemmas.Str.{IsCharBoundary-from_drop, IsUtf8-append, IsUtf8-drop, IsUtf8-encode, IsUtf8-take}
-use Rattle.std.proofs.lemmas.List.{take-append-drop}
+use Rattle.std.proofs.iter.runs.Made.{took}
+use Rattle.std.proofs.lemmas.Iterator.{items_from_drains}
+use Rattle.std.proofs.lemmas.Iterator.Splits.{YieldsList-from_str_split}
+use Rattle.std.proofs.lemmas.List.{take-append-drop, length-map}
 use Rattle.std.specs.Cmp.Lexicographic.{same_text, bytes_decides}
 use Rattle.std.specs.Fmt.{WritesInCalls}
-use Rattle.std.specs.List.{AllPass, FoldsTo, concat}
+use Rattle.std.specs.Iterator.Runs.{Run}
+use Rattle.std.specs.List.{AllPass, FoldsTo, concat, slice_split}
 use Rattle.std.specs.Char.{encode_utf8, is_whitespace, is_not_whitespace}
 use Rattle.std.specs.Str.{IsUtf8, IsCharBoundary, IsTrim, NonePass, NoCharPasses}
-use Rattle.std.specs.Str.Pattern.{HasCharAt}
+use Rattle.std.specs.Str.Iter.{split_steps, split_text, split_has_more, split_pattern}
+use Rattle.std.specs.Str.Pattern.{HasCharAt, FindsChar}
 use lib.Pointwise.{pointwise}
 use lib.Utf8.{scalar, scalars, low_scalar}
 use Rattle.compact_repr.specs.Text.{text_of, utf8}
@@ -160,3 +166,18 @@ pub ruleset literal_facts = (
   text_of-three,
   text_of-four,
 )
+
+-- the parts that a whole run of `split` gives, and how many they are; the first equation shows `grind` the call to match
+module _ (run : Run (split_steps FindsChar (λ a b. b ≡ a))) where
+  abbrev split_at : List (List ℕ)
+  split_at = slice_split (λ byte. nat_eq byte (split_pattern run.from)) (split_text run.from)
+
+  pub split-parts : run.whole ≡ true → split_pattern run.from < 128 → split_has_more run.from ≡ true
+      → (run.items ≡ run.items) × (map (λ part. part.now) run.items ≡ split_at) × (run.len ≡ length split_at)
+  split-parts whole ascii more =
+      let all = took run in
+      let same = items_from_drains run.items (all.0, all.1, λ _. all.2 whole)
+      (YieldsList-from_str_split {s = run.from} _ _ ascii refl more refl) in
+      (refl, same, run.long ∙ sym (length-map run.items (λ part. part.now)) ∙ ap length same)
+
+pub ruleset split_facts = (split-parts)

@@ -123,3 +123,10 @@ boundary-lowercase t p h = boundary-changed to_ascii_lowercase lowercase_ascii l
 
 pub boundary-uppercase : (t : List ℕ) (p : ℕ) → IsBoundary t p → IsBoundary (ascii_uppercase t) p
 boundary-uppercase t p h = boundary-changed to_ascii_uppercase uppercase_ascii uppercase_high t p h
+
+-- the bytes are changed likewise
+pub lowercase-bytes : (t : List ℕ) → encodes (ascii_lowercase t) ≡ map to_ascii_lowercase (encodes t)
+lowercase-bytes = encodes-changed to_ascii_lowercase lowercase_ascii lowercase_high
+
+pub uppercase-bytes : (t : List ℕ) → encodes (ascii_uppercase t) ≡ map to_ascii_uppercase (encodes t)
+uppercase-bytes = encodes-changed to_ascii_uppercase uppercase_ascii uppercase_high
