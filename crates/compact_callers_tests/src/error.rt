@@ -1,6 +1,6 @@
 //! Tests of the callers in `error.rt`.
 
-use crate::asserts::{assert_equal, assert_that};
+use compact_asserts::{assert_equal, assert_that};
 use compact_callers::error::{
     add_checked, add_name, add_named, add_read, add_short_name, marked_bytes, marked_line,
     marked_output, write_marked,
@@ -19,7 +19,7 @@ fn names_are_added_under_each_error(rt: HostRuntime) {
     add_read(alloc, &mut names, "abcdefghijklmnopqrstuvwxyz").expect(rt, "memory");
     add_checked(alloc, &mut names, "b").expect(rt, "memory");
     let texts = ["a", "é", "", "abcdefghijklmnopqrstuvwxyz", "b"];
-    assert_that(rt, are_texts(names.as_slice(), &texts));
+    assert_that!(rt, are_texts(names.as_slice(), &texts));
 }
 
 #[test]
@@ -28,14 +28,14 @@ fn a_line_is_marked_under_each_error(rt: HostRuntime) {
     let alloc = rt.alloc();
     let long = value_of(alloc, "abcdefghijklmnopqrstuvwxy").expect(rt, "memory");
     let string = marked_line(long).expect(rt, "memory");
-    assert_equal(rt, string.as_str(), "abcdefghijklmnopqrstuvwxy!");
+    assert_equal!(rt, string.as_str(), "abcdefghijklmnopqrstuvwxy!");
     let bytes = marked_bytes(short(alloc, "é")).expect(rt, "memory");
     let marked: &[u8] = b"\xC3\xA9!";
-    assert_equal(rt, bytes.as_slice(), marked);
+    assert_equal!(rt, bytes.as_slice(), marked);
     let bytes = marked_output(short(alloc, "")).expect(rt, "memory");
     let mark: &[u8] = b"!";
-    assert_equal(rt, bytes.as_slice(), mark);
+    assert_equal!(rt, bytes.as_slice(), mark);
     let mut out = short(alloc, "a");
     write_marked(short(alloc, "b"), &mut out).expect(rt, "memory");
-    assert_that(rt, is_inline(&out, "ab!"));
+    assert_that!(rt, is_inline(&out, "ab!"));
 }

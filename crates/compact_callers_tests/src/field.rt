@@ -1,6 +1,6 @@
 //! Tests of the callers in `field.rt`.
 
-use crate::asserts::{assert_equal, assert_that};
+use compact_asserts::{assert_equal, assert_that};
 use compact_callers::field::{read_name, read_person, write_person};
 use compact_testing::checks::is_inline;
 use compact_testing::values::short;
@@ -12,8 +12,8 @@ const WRITTEN: &str = r#"{"firstName":"zoë, of more than 24 bytes, on the heap"
 fn a_person_is_read(rt: HostRuntime) {
     let text = r#"{"firstName":"zo\u00eb","note":"n"}"#;
     let person = read_person(rt.alloc(), text).expect(&rt, "a person");
-    assert_that(&rt, is_inline(&person.first_name, "zoë"));
-    assert_equal(&rt, person.note.as_deref(), Some("n"));
+    assert_that!(&rt, is_inline(&person.first_name, "zoë"));
+    assert_equal!(&rt, person.note.as_deref(), Some("n"));
 }
 
 #[test]
@@ -22,15 +22,15 @@ fn a_person_that_is_written_is_read_back(rt: HostRuntime) {
     let alloc = rt.alloc();
     let person = read_person(alloc, WRITTEN).expect(rt, "a person");
     let written = write_person(alloc, &person).expect(rt, "memory");
-    assert_equal(rt, written.as_str(), WRITTEN);
+    assert_equal!(rt, written.as_str(), WRITTEN);
     let again = read_person(alloc, written.as_str()).expect(rt, "a person");
-    assert_that(rt, again == person);
+    assert_that!(rt, again == person);
 }
 
 #[test]
 fn a_name_is_a_text(rt: HostRuntime) {
     let alloc = rt.alloc();
     let name = read_name(alloc, r#""a\tb""#).expect(&rt, "a text");
-    assert_that(&rt, name == short(alloc, "a\tb"));
-    assert_that(&rt, read_name(alloc, "12").is_err());
+    assert_that!(&rt, name == short(alloc, "a\tb"));
+    assert_that!(&rt, read_name(alloc, "12").is_err());
 }

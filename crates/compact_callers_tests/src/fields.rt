@@ -1,6 +1,6 @@
 //! Tests of the callers in `fields.rt`.
 
-use crate::asserts::assert_equal;
+use compact_asserts::assert_equal;
 use compact_callers::fields::{Visit, seconds_by_host, visits_by_host};
 use compact_testing::values::short;
 use std::alloc::Global;
@@ -22,11 +22,11 @@ fn fields_are_counted(rt: HostRuntime) {
         visit(alloc, "né", 1),
     ];
     let counts = visits_by_host(alloc, &visits).expect(rt, "memory");
-    assert_equal(rt, counts.get("né").copied(), Some(2));
-    assert_equal(rt, counts.get("b").copied(), Some(1));
-    assert_equal(rt, counts.get("n").copied(), None);
+    assert_equal!(rt, counts.get("né").copied(), Some(2));
+    assert_equal!(rt, counts.get("b").copied(), Some(1));
+    assert_equal!(rt, counts.get("n").copied(), None);
     let totals = seconds_by_host(alloc, &visits).expect(rt, "memory");
-    assert_equal(rt, totals.get("né").copied(), Some(4294967296));
-    assert_equal(rt, totals.get("b").copied(), Some(7));
-    assert_equal(rt, totals.len(), 2);
+    assert_equal!(rt, totals.get("né").copied(), Some(4294967296));
+    assert_equal!(rt, totals.get("b").copied(), Some(7));
+    assert_equal!(rt, totals.len(), 2);
 }

@@ -4,7 +4,6 @@
 #[cfg(test)]
 mod adapted;
 #[cfg(test)]
-mod asserts;
 #[cfg(test)]
 mod bytes;
 #[cfg(test)]

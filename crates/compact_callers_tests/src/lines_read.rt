@@ -1,6 +1,6 @@
 //! Tests of the callers in `lines_read.rt`.
 
-use crate::asserts::{assert_equal, assert_that};
+use compact_asserts::{assert_equal, assert_that};
 use compact_callers::lines_read::{first_line, longest_line, next_pair};
 use compact_testing::checks::is_inline;
 use compact_testing::values::short;
@@ -12,18 +12,18 @@ fn pairs_of_lines_are_read(rt: HostRuntime) {
     let mut reader: &[u8] = b"a\n1\n\xC3\xA9\n22";
     let mut key = short(alloc, "old");
     let mut value = short(alloc, "old");
-    assert_that(
+    assert_that!(
         rt,
         next_pair(&mut reader, &mut key, &mut value).expect(rt, "a pair"),
     );
-    assert_that(rt, is_inline(&key, "a\n") && is_inline(&value, "1\n"));
-    assert_that(
+    assert_that!(rt, is_inline(&key, "a\n") && is_inline(&value, "1\n"));
+    assert_that!(
         rt,
         next_pair(&mut reader, &mut key, &mut value).expect(rt, "a pair"),
     );
-    assert_that(rt, is_inline(&key, "é\n") && is_inline(&value, "22"));
+    assert_that!(rt, is_inline(&key, "é\n") && is_inline(&value, "22"));
     let more = next_pair(&mut reader, &mut key, &mut value).expect(rt, "no pair");
-    assert_that(rt, !more && is_inline(&key, ""));
+    assert_that!(rt, !more && is_inline(&key, ""));
 }
 
 #[test]
@@ -31,16 +31,16 @@ fn the_longest_line_is_measured(rt: HostRuntime) {
     let rt = &rt;
     let alloc = rt.alloc();
     let mut reader: &[u8] = b"a\n\xC3\xA9\xC3\xA9\n\nabc";
-    assert_equal(rt, longest_line(alloc, &mut reader).expect(rt, "lines"), 5);
-    assert_that(rt, reader.is_empty());
-    assert_equal(
+    assert_equal!(rt, longest_line(alloc, &mut reader).expect(rt, "lines"), 5);
+    assert_that!(rt, reader.is_empty());
+    assert_equal!(
         rt,
         longest_line(alloc, &mut reader).expect(rt, "no lines"),
         0,
     );
     let mut reader: &[u8] = b"a\n\xFF\nb\n";
-    assert_that(rt, longest_line(alloc, &mut reader).is_err());
-    assert_equal(rt, longest_line(alloc, &mut reader).expect(rt, "a line"), 2);
+    assert_that!(rt, longest_line(alloc, &mut reader).is_err());
+    assert_equal!(rt, longest_line(alloc, &mut reader).expect(rt, "a line"), 2);
 }
 
 #[test]
@@ -49,9 +49,9 @@ fn the_first_line_is_read(rt: HostRuntime) {
     let alloc = rt.alloc();
     let mut reader: &[u8] = b"caf\xC3\xA9\nab";
     let line = first_line(alloc, &mut reader).expect(rt, "a line");
-    assert_that(rt, is_inline(&line, "café"));
+    assert_that!(rt, is_inline(&line, "café"));
     let line = first_line(alloc, &mut reader).expect(rt, "a line");
-    assert_that(rt, is_inline(&line, "ab"));
+    assert_that!(rt, is_inline(&line, "ab"));
     let mut reader: &[u8] = b"\xC3\n";
-    assert_that(rt, first_line(alloc, &mut reader).is_err());
+    assert_that!(rt, first_line(alloc, &mut reader).is_err());
 }

@@ -1,6 +1,6 @@
 //! Tests of the callers in `sorted.rt`.
 
-use crate::asserts::assert_that;
+use compact_asserts::assert_that;
 use compact_callers::sorted::distinct_names;
 use compact_testing::checks::are_texts;
 use compact_testing::values::short;
@@ -17,5 +17,5 @@ fn names_are_sorted_and_distinct(rt: HostRuntime) {
     ]
     .expect(rt, "memory");
     let names = distinct_names(names).expect(rt, "memory");
-    assert_that(rt, are_texts(names.as_slice(), &["", "b", "né"]));
+    assert_that!(rt, are_texts(names.as_slice(), &["", "b", "né"]));
 }

@@ -1,7 +1,6 @@
 //! Texts of formats.
 
-use crate::asserts::{assert_equal, assert_that};
-use compact_asserts::that_for;
+use compact_asserts::{assert_equal, assert_that, that_for};
 use compact_ext::{ToCompactStringError, format_compact};
 use compact_str::{CompactString, ReserveError};
 use compact_testing::checks::is_inline;
@@ -70,8 +69,8 @@ fn up_to_24_bytes_are_inline_and_more_on_the_heap(rt: HostRuntime) {
     let made = format_compact!(in alloc; "{}{}", ascii_text(20), 1234);
     is(rt, made, "aaaaaaaaaaaaaaaaaaaa1234");
     let text = text_of(rt, format_compact!(in alloc; "{}{}", ascii_text(20), 12345));
-    assert_that(rt, text.is_heap_allocated());
-    assert_equal(rt, text.as_str(), "aaaaaaaaaaaaaaaaaaaa12345");
+    assert_that!(rt, text.is_heap_allocated());
+    assert_equal!(rt, text.as_str(), "aaaaaaaaaaaaaaaaaaaa12345");
 }
 
 #[test]
@@ -79,22 +78,22 @@ fn a_long_format_is_made(rt: HostRuntime) {
     let rt = &rt;
     let alloc = rt.alloc();
     let text = text_of(rt, format_compact!(in alloc; "{:>5000}|{:>5000}", 7, 8));
-    assert_equal(rt, text.len(), 10_001);
-    assert_that(rt, text.starts_with("  "));
-    assert_that(rt, text.ends_with("  8"));
-    assert_equal(rt, text.find('|'), Some(5000));
+    assert_equal!(rt, text.len(), 10_001);
+    assert_that!(rt, text.starts_with("  "));
+    assert_that!(rt, text.ends_with("  8"));
+    assert_equal!(rt, text.find('|'), Some(5000));
 }
 
 #[test]
 fn a_display_that_fails_is_no_failed_allocation(rt: HostRuntime) {
     let alloc = rt.alloc();
     let failed = format_compact!(in alloc; "{Failing}");
-    assert_that(
+    assert_that!(
         &rt,
         failed.err() == Some(ToCompactStringError::Fmt(fmt::Error)),
     );
     let failed = format_compact!(in alloc; "{}{}", ascii_text(40), Failing);
-    assert_that(
+    assert_that!(
         &rt,
         failed.err() == Some(ToCompactStringError::Fmt(fmt::Error)),
     );
@@ -104,15 +103,15 @@ fn a_display_that_fails_is_no_failed_allocation(rt: HostRuntime) {
 fn errors_are_converted(rt: HostRuntime) {
     let refused = ToCompactStringError::from(ReserveError);
     let failed = ToCompactStringError::from(fmt::Error);
-    assert_that(&rt, refused == ToCompactStringError::Reserve(ReserveError));
-    assert_that(&rt, failed == ToCompactStringError::Fmt(fmt::Error));
-    assert_that(&rt, refused != failed);
+    assert_that!(&rt, refused == ToCompactStringError::Reserve(ReserveError));
+    assert_that!(&rt, failed == ToCompactStringError::Fmt(fmt::Error));
+    assert_that!(&rt, refused != failed);
 }
 
 /// Asserts the `Display` of an error.
 fn is_shown(rt: &impl Abort, alloc: Global, error: ToCompactStringError, text: &str) {
     let made = text_of(rt, format_compact!(in alloc; "{error}"));
-    assert_equal(rt, made.as_str(), text);
+    assert_equal!(rt, made.as_str(), text);
 }
 
 #[test]

@@ -1,7 +1,7 @@
 //! Texts of integers, checked by repeated division by ten: every value of the types of 8 and 16 bits, and of each
 //! wider type more than 10,000 around the powers of ten and of two.
 
-use crate::asserts::assert_that;
+use compact_asserts::assert_that;
 use compact_ext::ToCompactString;
 use std::alloc::Global;
 use std::process::Abort;
@@ -48,8 +48,8 @@ fn assert_shows<T: ToCompactString>(
     } else {
         text
     };
-    assert_that(rt, is_decimal(digits, magnitude));
-    assert_that(rt, value.is_heap_allocated() == (text.len() > 24));
+    assert_that!(rt, is_decimal(digits, magnitude));
+    assert_that!(rt, value.is_heap_allocated() == (text.len() > 24));
 }
 
 /// The greatest distance from a power.

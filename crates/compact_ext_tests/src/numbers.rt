@@ -1,6 +1,6 @@
 //! Texts of numbers and other values.
 
-use crate::asserts::{assert_equal, assert_that};
+use compact_asserts::{assert_equal, assert_that};
 use compact_ext::ToCompactString;
 use compact_str::CompactString;
 use compact_testing::checks::{is_at, is_heap, is_inline};
@@ -18,19 +18,19 @@ where
 {
     let first = value.to_compact_string(alloc).expect(rt, "memory");
     let second = value.try_to_compact_string(alloc).expect(rt, "memory");
-    assert_that(rt, first == second);
-    assert_that(rt, first.is_heap_allocated() == second.is_heap_allocated());
+    assert_that!(rt, first == second);
+    assert_that!(rt, first.is_heap_allocated() == second.is_heap_allocated());
     first
 }
 
 /// Asserts the text of a value, inline.
 fn assert_shown<T: ToCompactString + Drop>(rt: &impl Abort, alloc: Global, value: T, text: &str) {
-    assert_that(rt, is_inline(&shown(rt, alloc, value), text));
+    assert_that!(rt, is_inline(&shown(rt, alloc, value), text));
 }
 
 /// Asserts the text of a value, on the heap with just the capacity that it needs.
 fn assert_long<T: ToCompactString + Drop>(rt: &impl Abort, alloc: Global, value: T, text: &str) {
-    assert_that(
+    assert_that!(
         rt,
         is_at(&shown(rt, alloc, value), "heap", text.len(), text),
     );
@@ -117,7 +117,7 @@ fn other_values_have_these_texts(rt: HostRuntime) {
 
 /// Asserts the text of a value of 30 characters, on the heap with the minimum capacity.
 fn assert_thirty<T: ToCompactString + Drop>(rt: &impl Abort, alloc: Global, value: T) {
-    assert_that(rt, is_heap(&shown(rt, alloc, value), 32, ascii_text(30)));
+    assert_that!(rt, is_heap(&shown(rt, alloc, value), 32, ascii_text(30)));
 }
 
 #[test]
@@ -136,7 +136,7 @@ fn boxes_and_cows_have_these_texts(rt: HostRuntime) {
 
 /// Asserts the bytes of an inline value.
 fn assert_packed(rt: &impl Abort, value: &CompactString, bytes: &[u8; 24]) {
-    assert_equal(rt, &value.packed().expect(rt, "inline"), bytes);
+    assert_equal!(rt, &value.packed().expect(rt, "inline"), bytes);
 }
 
 #[test]

@@ -1,6 +1,6 @@
 //! Lines read into a string that is used again.
 
-use crate::asserts::{assert_equal, assert_that};
+use compact_asserts::{assert_equal, assert_that};
 use compact_ext::{ReadLineError, read_line};
 use compact_str::CompactString;
 use compact_testing::checks::{is_at, is_inline};
@@ -29,8 +29,8 @@ fn assert_reads<R: BufRead>(
     count: usize,
     text: &str,
 ) {
-    assert_equal(rt, read_line(reader, line).expect(rt, "a line"), count);
-    assert_equal(rt, line.as_str(), text);
+    assert_equal!(rt, read_line(reader, line).expect(rt, "a line"), count);
+    assert_equal!(rt, line.as_str(), text);
 }
 
 /// Asserts that a call ends with this error, and leaves the line unchanged.
@@ -41,8 +41,8 @@ fn assert_fails<R: BufRead>(
     end: &str,
     text: &str,
 ) {
-    assert_equal(rt, end_of(&read_line(reader, line)), end);
-    assert_that(rt, is_inline(line, text));
+    assert_equal!(rt, end_of(&read_line(reader, line)), end);
+    assert_that!(rt, is_inline(line, text));
 }
 
 /// Returns a reader that shows one byte at a time.
@@ -65,7 +65,7 @@ fn lines_are_appended_with_their_newline(rt: HostRuntime) {
     assert_reads(rt, &mut reader, &mut line, 1, "> café\r\n\n");
     assert_reads(rt, &mut reader, &mut line, 2, "> café\r\n\nab");
     assert_reads(rt, &mut reader, &mut line, 0, "> café\r\n\nab");
-    assert_that(rt, is_inline(&line, "> café\r\n\nab"));
+    assert_that!(rt, is_inline(&line, "> café\r\n\nab"));
 }
 
 #[test]
@@ -74,7 +74,7 @@ fn an_empty_input_has_no_line(rt: HostRuntime) {
     let mut line = lasting(rt.alloc(), 30);
     let mut reader = b"".as_slice();
     assert_reads(rt, &mut reader, &mut line, 0, ascii_text(30));
-    assert_that(rt, line.as_static_str().is_some());
+    assert_that!(rt, line.as_static_str().is_some());
 }
 
 #[test]
@@ -87,7 +87,7 @@ fn a_line_comes_byte_by_byte(rt: HostRuntime) {
     line.clear();
     assert_reads(rt, &mut reader, &mut line, 2, "ab");
     assert_reads(rt, &mut reader, &mut line, 0, "ab");
-    assert_that(rt, is_inline(&line, "ab"));
+    assert_that!(rt, is_inline(&line, "ab"));
 }
 
 #[test]
@@ -103,11 +103,11 @@ fn a_string_is_used_again(rt: HostRuntime) {
         30,
         "aaaaaaaaaaaaaaaaaaaaaaaaaaaaa\n",
     );
-    assert_that(rt, line.is_heap_allocated());
+    assert_that!(rt, line.is_heap_allocated());
     let capacity = line.capacity();
     line.clear();
     assert_reads(rt, &mut reader, &mut line, 15, ascii_text(15));
-    assert_that(rt, is_at(&line, "heap", capacity, ascii_text(15)));
+    assert_that!(rt, is_at(&line, "heap", capacity, ascii_text(15)));
 }
 
 #[test]
@@ -165,9 +165,9 @@ fn an_invalid_line_is_read_whole(rt: HostRuntime) {
 fn errors_convert_to_those_of_std(rt: HostRuntime) {
     let rt = &rt;
     let error = io::Error::from(ReadLineError::Utf8);
-    assert_that(rt, error.kind() == ErrorKind::InvalidData);
+    assert_that!(rt, error.kind() == ErrorKind::InvalidData);
     let error = io::Error::from(ReadLineError::from(io::Error::from(ErrorKind::TimedOut)));
-    assert_that(rt, error.kind() == ErrorKind::TimedOut);
+    assert_that!(rt, error.kind() == ErrorKind::TimedOut);
     let error = io::Error::from(ReadLineError::from(std::alloc::AllocError));
-    assert_that(rt, error.kind() == ErrorKind::OutOfMemory);
+    assert_that!(rt, error.kind() == ErrorKind::OutOfMemory);
 }

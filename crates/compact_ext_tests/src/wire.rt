@@ -1,8 +1,8 @@
 //! Writing and reading the wire form: the bytes, and what each fault has read or written. The bytes were written by
 //! hand from the definition of the form.
 
-use crate::asserts::{assert_equal, assert_that};
 use crate::wire_forms::{assert_writes, end_of, form_of, form_of_ascii};
+use compact_asserts::{assert_equal, assert_that};
 use compact_ext::wire::{WireError, read_wire, write_wire};
 use compact_str::{CompactString, ReserveError};
 use compact_testing::checks::is_inline;
@@ -17,8 +17,8 @@ use std::process::Abort;
 fn assert_written(rt: &impl Abort, alloc: Global, text: &str, bytes: &[u8]) {
     let mut written = Vec::new(alloc);
     let sent = write_wire(&value_of(alloc, text).expect(rt, "memory"), &mut written);
-    assert_that(rt, sent.is_ok());
-    assert_equal(rt, written.as_slice(), bytes);
+    assert_that!(rt, sent.is_ok());
+    assert_equal!(rt, written.as_slice(), bytes);
 }
 
 #[test]
@@ -48,9 +48,9 @@ fn a_text_of_100000_bytes_is_written(rt: HostRuntime) {
     let alloc = rt.alloc();
     let text = short(alloc, "a").repeat(100_000).expect(rt, "memory");
     let mut written = Vec::new(alloc);
-    assert_that(rt, write_wire(&text, &mut written).is_ok());
-    assert_equal(rt, written.len(), 100_004);
-    assert_equal(rt, written.get(..5), Some(b"\xA0\x86\x01\0a".as_slice()));
+    assert_that!(rt, write_wire(&text, &mut written).is_ok());
+    assert_equal!(rt, written.len(), 100_004);
+    assert_equal!(rt, written.get(..5), Some(b"\xA0\x86\x01\0a".as_slice()));
 }
 
 #[test]
@@ -59,16 +59,16 @@ fn what_follows_a_form_stays_unread(rt: HostRuntime) {
     let bytes: [u8; 7] = [2, 0, 0, 0, 0x48, 0x69, 0x4A];
     let mut rest: &[u8] = &bytes;
     let text = read_wire(rt.alloc(), &mut rest).expect(rt, "a text");
-    assert_that(rt, is_inline(&text, "Hi"));
-    assert_equal(rt, rest.len(), 1);
-    assert_that(rt, rest.first() == Some(&0x4A));
+    assert_that!(rt, is_inline(&text, "Hi"));
+    assert_equal!(rt, rest.len(), 1);
+    assert_that!(rt, rest.first() == Some(&0x4A));
 }
 
 /// Asserts the fault of an input that is no form, and that all of it is read.
 fn assert_no_form(rt: &impl Abort, alloc: Global, bytes: &[u8], fault: &str) {
     let mut rest = bytes;
-    assert_equal(rt, end_of(&read_wire(alloc, &mut rest)), fault);
-    assert_equal(rt, rest.len(), 0);
+    assert_equal!(rt, end_of(&read_wire(alloc, &mut rest)), fault);
+    assert_equal!(rt, rest.len(), 0);
 }
 
 #[test]
@@ -88,7 +88,7 @@ fn an_input_that_is_no_form_has_a_fault(rt: HostRuntime) {
         assert_no_form(rt, alloc, bytes, fault);
     }
     let form = form_of_ascii(rt, alloc, 55);
-    assert_equal(rt, form.len(), 59);
+    assert_equal!(rt, form.len(), 59);
     assert_no_form(rt, alloc, form.get(..58).unwrap_or(&[]), "end");
 }
 
@@ -100,19 +100,19 @@ fn a_text_is_read_in_pieces(rt: HostRuntime) {
     for step in 1..65 {
         let mut reader = Pieces::new(&form, step, Stop::Never);
         let text = read_wire(alloc, &mut reader).expect(rt, "a text");
-        assert_equal(rt, text.as_bytes(), form.get(4..).unwrap_or(&[]));
-        assert_that(rt, text.is_heap_allocated());
-        assert_equal(rt, text.capacity(), 60);
-        assert_equal(rt, reader.rest.len(), 0);
+        assert_equal!(rt, text.as_bytes(), form.get(4..).unwrap_or(&[]));
+        assert_that!(rt, text.is_heap_allocated());
+        assert_equal!(rt, text.capacity(), 60);
+        assert_equal!(rt, reader.rest.len(), 0);
     }
 }
 
 /// Asserts that a reader of one byte a call is not called again after it stops, and that the bytes before are read.
 fn assert_stops(rt: &impl Abort, alloc: Global, form: &[u8], call: usize, stop: Stop, fault: &str) {
     let mut reader = Pieces::new(form, 1, stop);
-    assert_equal(rt, end_of(&read_wire(alloc, &mut reader)), fault);
-    assert_equal(rt, reader.calls, call);
-    assert_equal(rt, reader.rest.len().saturating_add(call), form.len() + 1);
+    assert_equal!(rt, end_of(&read_wire(alloc, &mut reader)), fault);
+    assert_equal!(rt, reader.calls, call);
+    assert_equal!(rt, reader.rest.len().saturating_add(call), form.len() + 1);
 }
 
 /// Asserts that at each call of a form, for each way to stop.
@@ -132,8 +132,8 @@ fn assert_each_stop(rt: &impl Abort, alloc: Global, form: &[u8]) {
     }
     let late = Stop::Breaks(form.len() + 1, ErrorKind::Other);
     let mut reader = Pieces::new(form, 1, late);
-    assert_equal(rt, end_of(&read_wire(alloc, &mut reader)), "done");
-    assert_equal(rt, reader.calls, form.len());
+    assert_equal!(rt, end_of(&read_wire(alloc, &mut reader)), "done");
+    assert_equal!(rt, reader.calls, form.len());
 }
 
 #[test]
@@ -194,22 +194,22 @@ fn texts_of_each_length_come_back(rt: HostRuntime) {
             &value_of(alloc, ascii_text(count)).expect(rt, "memory"),
             &mut bytes,
         );
-        assert_that(rt, sent.is_ok());
+        assert_that!(rt, sent.is_ok());
     }
     let mut rest = bytes.as_slice();
     for count in 0..80 {
         let text = read_wire(alloc, &mut rest).expect(rt, "a text");
-        assert_equal(rt, text.as_str(), ascii_text(count));
-        assert_that(rt, text.is_heap_allocated() == (count > 24));
+        assert_equal!(rt, text.as_str(), ascii_text(count));
+        assert_that!(rt, text.is_heap_allocated() == (count > 24));
     }
-    assert_equal(rt, rest.len(), 0);
+    assert_equal!(rt, rest.len(), 0);
 }
 
 /// Asserts the `Display` of a fault.
 fn assert_shown(rt: &impl Abort, alloc: Global, fault: WireError, text: &str) {
     let mut shown = CompactString::default(alloc);
     write!(shown, "{fault}").expect(rt, "memory");
-    assert_equal(rt, shown.as_str(), text);
+    assert_equal!(rt, shown.as_str(), text);
 }
 
 #[test]
@@ -233,7 +233,7 @@ fn faults_are_shown(rt: HostRuntime) {
     assert_shown(rt, alloc, failed, "input or output failed");
     assert_shown(rt, alloc, WireError::WriteZero, "writer took no bytes");
     let refused = WireError::from(ReserveError);
-    assert_that(rt, matches!(refused, WireError::Reserve(_)));
+    assert_that!(rt, matches!(refused, WireError::Reserve(_)));
     assert_shown(
         rt,
         alloc,

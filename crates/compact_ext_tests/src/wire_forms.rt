@@ -1,6 +1,6 @@
 //! Wire forms, the names of outcomes, and the output of a writer.
 
-use crate::asserts::assert_equal;
+use compact_asserts::assert_equal;
 use compact_ext::wire::{WireError, write_wire};
 use compact_str::CompactString;
 use compact_testing::stopping_io::Narrow;
@@ -35,8 +35,8 @@ pub fn assert_writes(
     end: &str,
     out: &[u8],
 ) {
-    assert_equal(rt, end_of(&write_wire(text, &mut writer)), end);
-    assert_equal(rt, writer.bytes(), out);
+    assert_equal!(rt, end_of(&write_wire(text, &mut writer)), end);
+    assert_equal!(rt, writer.bytes(), out);
 }
 
 /// Builds a form: the length, then `count` times `letter`.

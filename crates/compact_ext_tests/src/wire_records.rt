@@ -1,7 +1,7 @@
 //! Records of a reader, to its end. The bytes were written by hand from the definition of the form.
 
-use crate::asserts::{assert_equal, assert_that};
 use crate::wire_forms::end_of;
+use compact_asserts::{assert_equal, assert_that};
 use compact_ext::wire::{Records, WireError};
 use compact_str::CompactString;
 use compact_testing::checks::{is_at, is_inline};
@@ -25,7 +25,7 @@ fn read_records<R: BufRead + Drop>(
 /// Asserts that the next record is this text, inline.
 fn assert_next<R: BufRead + Drop>(rt: &impl Abort, records: &mut Records<R>, text: &str) {
     let item = records.next().expect(rt, "no end");
-    assert_that(rt, is_inline(&item.expect(rt, "a text"), text));
+    assert_that!(rt, is_inline(&item.expect(rt, "a text"), text));
 }
 
 /// Asserts that the next records are these texts, inline.
@@ -38,18 +38,18 @@ fn assert_texts<R: BufRead + Drop>(rt: &impl Abort, records: &mut Records<R>, te
 /// Asserts that the next record is a fault of this name.
 fn assert_next_fault<R: BufRead + Drop>(rt: &impl Abort, records: &mut Records<R>, fault: &str) {
     let item = records.next().expect(rt, "no end");
-    assert_equal(rt, end_of(&item), fault);
+    assert_equal!(rt, end_of(&item), fault);
 }
 
 /// Asserts that there are no more records, however often `next` is called.
 fn assert_end<R: BufRead + Drop>(rt: &impl Abort, records: &mut Records<R>) {
-    assert_that(rt, records.next().is_none());
-    assert_that(rt, records.next().is_none());
+    assert_that!(rt, records.next().is_none());
+    assert_that!(rt, records.next().is_none());
 }
 
 /// Asserts that collecting records fails, with this fault.
 fn assert_not_collected<R: BufRead + Drop>(rt: &impl Abort, alloc: Global, reader: R, fault: &str) {
-    assert_equal(rt, end_of(&read_records(alloc, reader)), fault);
+    assert_equal!(rt, end_of(&read_records(alloc, reader)), fault);
 }
 
 #[test]
@@ -61,7 +61,7 @@ fn records_are_read_in_order(rt: HostRuntime) {
 
 /// Asserts that the record at an index is this text, inline.
 fn is_record(rt: &impl Abort, records: &[CompactString], place: usize, text: &str) {
-    assert_that(
+    assert_that!(
         rt,
         is_inline(records.get(place).expect(rt, "a record"), text),
     );
@@ -69,7 +69,7 @@ fn is_record(rt: &impl Abort, records: &[CompactString], place: usize, text: &st
 
 /// Asserts that these are the three records, each inline.
 fn assert_records(rt: &impl Abort, records: &[CompactString]) {
-    assert_equal(rt, records.len(), 3);
+    assert_equal!(rt, records.len(), 3);
     is_record(rt, records, 0, "a");
     is_record(rt, records, 1, "");
     is_record(rt, records, 2, "Hi");
@@ -95,9 +95,9 @@ fn no_bytes_are_no_records(rt: HostRuntime) {
     let alloc = rt.alloc();
     let none: &[u8] = &[];
     let records = read_records(alloc, none).expect(&rt, "records");
-    assert_equal(&rt, records.len(), 0);
+    assert_equal!(&rt, records.len(), 0);
     let first = Records::new(alloc, none).next();
-    assert_that(&rt, first.is_none());
+    assert_that!(&rt, first.is_none());
 }
 
 /// Asserts the records of the first bytes, which end within the third.
@@ -168,7 +168,7 @@ fn assert_long_and_another<R: BufRead + Drop>(
 ) {
     let mut records = Records::new(alloc, reader);
     let item = records.next().expect(rt, "no end");
-    assert_that(
+    assert_that!(
         rt,
         is_at(&item.expect(rt, "a text"), "heap", text.len(), text),
     );
@@ -237,5 +237,5 @@ fn a_thousand_records_are_collected(rt: HostRuntime) {
         bytes.extend_from_slice(b"\x01\0\0\0a").expect(rt, "memory");
     }
     let records = read_records(alloc, bytes.as_slice()).expect(rt, "records");
-    assert_equal(rt, records.len(), 1000);
+    assert_equal!(rt, records.len(), 1000);
 }

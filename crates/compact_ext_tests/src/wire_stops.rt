@@ -1,7 +1,7 @@
 //! Wire forms in pieces: a reader that ends at each of its bytes, and a writer that stops at each.
 
-use crate::asserts::{assert_equal, assert_that};
 use crate::wire_forms::{assert_writes, end_of, form_of_ascii};
+use compact_asserts::{assert_equal, assert_that};
 use compact_ext::wire::{Records, WireError, read_wire, write_wire};
 use compact_str::CompactString;
 use compact_testing::checks::is_at;
@@ -15,8 +15,8 @@ use std::process::Abort;
 fn assert_beginnings(rt: &impl Abort, alloc: Global, form: &[u8], step: usize) {
     for count in 0..form.len() {
         let mut reader = Pieces::new(form.get(..count).unwrap_or(&[]), step, Stop::Never);
-        assert_equal(rt, end_of(&read_wire(alloc, &mut reader)), "end");
-        assert_equal(rt, reader.rest.len(), 0);
+        assert_equal!(rt, end_of(&read_wire(alloc, &mut reader)), "end");
+        assert_equal!(rt, reader.rest.len(), 0);
     }
 }
 
@@ -25,7 +25,7 @@ fn each_beginning_of_a_form_ends_too_early(rt: HostRuntime) {
     let rt = &rt;
     let alloc = rt.alloc();
     let short = form_of_ascii(rt, alloc, 24);
-    assert_equal(rt, short.len(), 28);
+    assert_equal!(rt, short.len(), 28);
     assert_beginnings(rt, alloc, &short, 1);
     assert_beginnings(rt, alloc, &short, 5);
     let long = form_of_ascii(rt, alloc, 30);
@@ -37,7 +37,7 @@ fn each_beginning_of_a_form_ends_too_early(rt: HostRuntime) {
 fn assert_byte_by_byte(rt: &impl Abort, alloc: Global, count: u8, place: &str, capacity: usize) {
     let form = form_of_ascii(rt, alloc, count);
     let text = read_wire(alloc, &mut Pieces::new(&form, 1, Stop::Never)).expect(rt, "a text");
-    assert_that(
+    assert_that!(
         rt,
         is_at(&text, place, capacity, ascii_text(count as usize)),
     );
@@ -52,9 +52,9 @@ fn a_text_is_read_byte_by_byte(rt: HostRuntime) {
 /// Asserts that invalid bytes are reported once they are read, and what follows is not.
 fn assert_broken(rt: &impl Abort, alloc: Global, bytes: &[u8], left: usize) {
     let mut reader = Pieces::new(bytes, 1, Stop::Never);
-    assert_equal(rt, end_of(&read_wire(alloc, &mut reader)), "utf8");
-    assert_equal(rt, reader.rest.len(), left);
-    assert_equal(rt, reader.calls.saturating_add(left), bytes.len());
+    assert_equal!(rt, end_of(&read_wire(alloc, &mut reader)), "utf8");
+    assert_equal!(rt, reader.rest.len(), left);
+    assert_equal!(rt, reader.calls.saturating_add(left), bytes.len());
 }
 
 #[test]
@@ -101,8 +101,8 @@ fn a_long_text_stops_at_each_byte(rt: HostRuntime) {
 /// Asserts the outcome of a claim of the greatest length, when the reader stops after `count` bytes of the text.
 fn assert_claim_ends(rt: &impl Abort, alloc: Global, count: usize, stop: Stop, end: &str) {
     let mut reader = Pieces::new(b"\xFF\xFF\xFF\xFFabc", 1, stop);
-    assert_equal(rt, end_of(&read_wire(alloc, &mut reader)), end);
-    assert_equal(rt, reader.rest.len().saturating_add(count), 3);
+    assert_equal!(rt, end_of(&read_wire(alloc, &mut reader)), end);
+    assert_equal!(rt, reader.rest.len().saturating_add(count), 3);
 }
 
 /// Asserts that the outcome of such a claim is that of its reader.
@@ -132,14 +132,14 @@ fn kind_of<T>(ended: &Result<T, WireError>) -> Option<ErrorKind> {
 fn assert_kind(rt: &impl Abort, alloc: Global, kind: ErrorKind) {
     let form = form_of_ascii(rt, alloc, 30);
     let mut reader = Pieces::new(&form, 30, Stop::Fails(2, kind));
-    assert_that(rt, kind_of(&read_wire(alloc, &mut reader)) == Some(kind));
+    assert_that!(rt, kind_of(&read_wire(alloc, &mut reader)) == Some(kind));
     let text = value_of(alloc, ascii_text(30)).expect(rt, "memory");
     let mut writer = Narrow::new(256, 256, Stop::Fails(2, kind));
-    assert_that(rt, kind_of(&write_wire(&text, &mut writer)) == Some(kind));
+    assert_that!(rt, kind_of(&write_wire(&text, &mut writer)) == Some(kind));
     let pieces = Pieces::new(&form, 30, Stop::Fails(1, kind));
     let reader = BufReader::with_capacity(alloc, 8, pieces).expect(rt, "a buffer");
     let item = Records::new(alloc, reader).next().expect(rt, "no end");
-    assert_that(rt, kind_of(&item) == Some(kind));
+    assert_that!(rt, kind_of(&item) == Some(kind));
 }
 
 #[test]
@@ -160,8 +160,8 @@ fn a_reader_that_has_all_bytes_is_called_twice(rt: HostRuntime) {
     for count in [24, 80] {
         let form = form_of_ascii(rt, alloc, count);
         let mut reader = Pieces::new(&form, 100, Stop::Never);
-        assert_that(rt, read_wire(alloc, &mut reader).is_ok());
-        assert_equal(rt, reader.calls, 2);
+        assert_that!(rt, read_wire(alloc, &mut reader).is_ok());
+        assert_equal!(rt, reader.calls, 2);
     }
 }
 

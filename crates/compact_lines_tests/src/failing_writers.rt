@@ -1,6 +1,6 @@
 //! The program over a reader and a writer that stop at each of their calls in turn: what was written is kept.
 
-use crate::asserts::assert_equal;
+use compact_asserts::assert_equal;
 use compact_lines::run_lines;
 use compact_testing::stopping_io::{Narrow, Pieces, Stop};
 use std::alloc::Global;
@@ -37,8 +37,8 @@ fn written_after(count: usize) -> &'static str {
 fn assert_read(rt: &impl Abort, alloc: Global, stop: Stop, status: u8, written: &[u8]) {
     let mut reader = Pieces::new(INPUT, 1, stop);
     let mut writer = Narrow::new(256, 256, Stop::Never);
-    assert_equal(rt, run_lines(alloc, &mut reader, &mut writer), status);
-    assert_equal(rt, writer.bytes(), written);
+    assert_equal!(rt, run_lines(alloc, &mut reader, &mut writer), status);
+    assert_equal!(rt, writer.bytes(), written);
 }
 
 #[test]
@@ -62,8 +62,8 @@ fn an_interrupted_read_is_repeated(rt: HostRuntime) {
 /// Asserts the status and output of a session that writes one byte a call.
 fn assert_written(rt: &impl Abort, alloc: Global, mut writer: Narrow, status: u8, taken: &[u8]) {
     let mut input = INPUT;
-    assert_equal(rt, run_lines(alloc, &mut input, &mut writer), status);
-    assert_equal(rt, writer.bytes(), taken);
+    assert_equal!(rt, run_lines(alloc, &mut input, &mut writer), status);
+    assert_equal!(rt, writer.bytes(), taken);
 }
 
 #[test]
@@ -109,6 +109,6 @@ fn a_flush_that_fails_ends_the_session(rt: HostRuntime) {
 fn no_input_prints_nothing(rt: HostRuntime) {
     let mut reader = Pieces::new(b"", 1, Stop::Never);
     let mut writer = Narrow::new(256, 1, Stop::Fails(1, ErrorKind::Other));
-    assert_equal(&rt, run_lines(rt.alloc(), &mut reader, &mut writer), 0);
-    assert_equal(&rt, writer.bytes().len(), 0);
+    assert_equal!(&rt, run_lines(rt.alloc(), &mut reader, &mut writer), 0);
+    assert_equal!(&rt, writer.bytes().len(), 0);
 }

@@ -2,7 +2,6 @@
 #![tactic(auto)]
 
 #[cfg(test)]
-mod asserts;
 #[cfg(test)]
 mod failing_writers;
 #[cfg(test)]

@@ -1,7 +1,7 @@
 //! Sessions of lines, and readers and writers that fail.
 
-use crate::asserts::{assert_equal, assert_that};
 use crate::transcript::{assert_prints, assert_sessions};
+use compact_asserts::{assert_equal, assert_that};
 use compact_lines::run_lines;
 use std::alloc::Global;
 use std::io;
@@ -164,10 +164,10 @@ fn a_line_of_a_million_bytes_is_read(rt: HostRuntime) {
     let alloc = rt.alloc();
     let input = a_million_characters(rt, alloc);
     let mut output = Vec::new(alloc);
-    assert_equal(rt, run_lines(alloc, &mut input.as_slice(), &mut output), 0);
+    assert_equal!(rt, run_lines(alloc, &mut input.as_slice(), &mut output), 0);
     // `done`, then place, length and capacity are 26 bytes; the text and its newline follow.
-    assert_equal(rt, output.len(), 26 + 1_000_000 + 1);
-    assert_that(
+    assert_equal!(rt, output.len(), 26 + 1_000_000 + 1);
+    assert_that!(
         rt,
         output
             .as_slice()
@@ -192,8 +192,8 @@ fn a_thousand_flags_are_read(rt: HostRuntime) {
 fn a_failing_reader_ends_with_1(rt: HostRuntime) {
     let alloc = rt.alloc();
     let mut output = Vec::new(alloc);
-    assert_equal(&rt, run_lines(alloc, &mut Broken, &mut output), 1);
-    assert_equal(&rt, output.len(), 0);
+    assert_equal!(&rt, run_lines(alloc, &mut Broken, &mut output), 1);
+    assert_equal!(&rt, output.len(), 0);
 }
 
 /// Returns the status for an input when nothing can be written.
@@ -204,7 +204,7 @@ fn status_of_unwritten(alloc: Global, mut input: &[u8]) -> u8 {
 #[test]
 fn a_failing_writer_ends_with_1_once_it_is_used(rt: HostRuntime) {
     let alloc = rt.alloc();
-    assert_equal(&rt, status_of_unwritten(alloc, b"clear\n"), 1);
-    assert_equal(&rt, status_of_unwritten(alloc, b"foo\n"), 1);
-    assert_equal(&rt, status_of_unwritten(alloc, b""), 0);
+    assert_equal!(&rt, status_of_unwritten(alloc, b"clear\n"), 1);
+    assert_equal!(&rt, status_of_unwritten(alloc, b"foo\n"), 1);
+    assert_equal!(&rt, status_of_unwritten(alloc, b""), 0);
 }

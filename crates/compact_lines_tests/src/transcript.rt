@@ -1,7 +1,6 @@
 //! Sessions with the program, asserted by what it prints.
 
-use crate::asserts::assert_equal;
-use compact_asserts::that_for;
+use compact_asserts::{assert_equal, that_for};
 use compact_lines::run_lines;
 use std::alloc::Global;
 use std::process::Abort;
@@ -9,8 +8,8 @@ use std::process::Abort;
 /// Asserts what the program prints for an input, and that it succeeds.
 pub fn assert_prints(rt: &impl Abort, alloc: Global, mut input: &[u8], printed: &[u8]) {
     let mut output = Vec::new(alloc);
-    assert_equal(rt, run_lines(alloc, &mut input, &mut output), 0);
-    assert_equal(rt, output.as_slice(), printed);
+    assert_equal!(rt, run_lines(alloc, &mut input, &mut output), 0);
+    assert_equal!(rt, output.as_slice(), printed);
 }
 
 /// Asserts each session of a transcript. A line with `#` says what the session after it shows, one with `>` is read by

@@ -1,7 +1,6 @@
 //! Texts of formats when allocations fail, beyond what `compact_table_tests` tries of each call.
 
-use crate::asserts::{assert_equal, assert_that};
-use compact_asserts::that_for;
+use compact_asserts::{assert_equal, assert_that, that_for};
 use compact_ext::{ToCompactString, ToCompactStringError, format_compact};
 use compact_str::{CompactString, ReserveError};
 use compact_testing::checks::is_inline;
@@ -53,8 +52,8 @@ fn formats_and_strings_of_24_bytes_need_no_memory(rt: HostRuntime) {
 
 /// Asserts that both calls on a value fail.
 fn assert_fails<T: ToCompactString>(rt: &impl Abort, alloc: Global, value: &T) {
-    assert_that(rt, fails_to_allocate(value.to_compact_string(alloc)));
-    assert_that(rt, fails_to_allocate(value.try_to_compact_string(alloc)));
+    assert_that!(rt, fails_to_allocate(value.to_compact_string(alloc)));
+    assert_that!(rt, fails_to_allocate(value.try_to_compact_string(alloc)));
 }
 
 #[test]
@@ -80,16 +79,16 @@ fn a_failure_that_a_display_hides_is_reported(rt: HostRuntime) {
     let rt = &rt;
     let alloc = rt.alloc();
     let hog = take_all(alloc).expect(rt, "room for the list of blocks");
-    assert_that(
+    assert_that!(
         rt,
         fails_to_allocate(format_compact!(in alloc; "{}", Hiding(1))),
     );
-    assert_that(
+    assert_that!(
         rt,
         fails_to_allocate(format_compact!(in alloc; "{}a", Hiding(2))),
     );
     drop(hog);
     let text = format_compact!(in alloc; "{}", Hiding(2)).expect(rt, "memory");
-    assert_equal(rt, text.as_str(), ascii_text(60));
-    assert_that(rt, text.is_heap_allocated());
+    assert_equal!(rt, text.as_str(), ascii_text(60));
+    assert_that!(rt, text.is_heap_allocated());
 }

@@ -1,6 +1,6 @@
 //! The interner with no memory.
 
-use crate::asserts::{assert_equal, assert_that};
+use compact_asserts::{assert_equal, assert_that};
 use compact_edit::{InternError, Interner};
 use compact_testing::memory::take_all;
 use compact_testing::values::ascii_text;
@@ -14,14 +14,14 @@ fn long() -> &'static str {
 
 /// Asserts the number of a text.
 fn is_number(rt: &impl Abort, names: &mut Interner, text: &str, number: u32) {
-    assert_equal(rt, names.intern(text).expect(rt, "memory"), number);
+    assert_equal!(rt, names.intern(text).expect(rt, "memory"), number);
 }
 
 /// Asserts that a text fails for lack of memory, leaving `count` names.
 fn assert_fails(rt: &impl Abort, names: &mut Interner, text: &str, count: usize) {
     let failed = matches!(names.intern(text), Err(InternError::Reserve(_)));
-    assert_that(rt, failed);
-    assert_equal(rt, names.len(), count);
+    assert_that!(rt, failed);
+    assert_equal!(rt, names.len(), count);
 }
 
 /// Asserts that a list of texts fails when no memory is left.
@@ -35,7 +35,7 @@ fn assert_all_fails(
     let hog = take_all(alloc).expect(rt, "room for the list of blocks");
     let taken = names.intern_all(texts, numbers);
     drop(hog);
-    assert_that(rt, matches!(taken, Err(InternError::Reserve(_))));
+    assert_that!(rt, matches!(taken, Err(InternError::Reserve(_))));
 }
 
 #[test]
@@ -52,7 +52,7 @@ fn a_name_already_in_the_table_needs_no_memory(rt: HostRuntime) {
     assert_fails(rt, &mut names, ascii_text(30), 4);
     is_number(rt, &mut names, long(), 3);
     drop(hog);
-    assert_equal(rt, names.name(3), Some(long()));
+    assert_equal!(rt, names.name(3), Some(long()));
     is_number(rt, &mut names, ascii_text(30), 4);
 }
 
@@ -96,8 +96,8 @@ fn without_room_for_the_numbers_no_text_is_interned(rt: HostRuntime) {
     let mut numbers = eight_numbers(rt, alloc);
     is_number(rt, &mut names, "a", 0);
     assert_all_fails(rt, alloc, &mut names, &["a", "b"], &mut numbers);
-    assert_equal(rt, numbers.as_slice(), [0, 1, 2, 3, 4, 5, 6, 7].as_slice());
-    assert_equal(rt, names.len(), 1);
+    assert_equal!(rt, numbers.as_slice(), [0, 1, 2, 3, 4, 5, 6, 7].as_slice());
+    assert_equal!(rt, names.len(), 1);
 }
 
 #[test]
@@ -111,8 +111,8 @@ fn the_texts_before_the_one_that_fails_have_their_numbers(rt: HostRuntime) {
     is_number(rt, &mut names, "b", 1);
     let texts = ["b", "a", ascii_text(30), "b"];
     assert_all_fails(rt, alloc, &mut names, &texts, &mut numbers);
-    assert_equal(rt, numbers.as_slice(), [7, 1, 0].as_slice());
-    assert_equal(rt, names.len(), 2);
+    assert_equal!(rt, numbers.as_slice(), [7, 1, 0].as_slice());
+    assert_equal!(rt, names.len(), 2);
 }
 
 #[test]

@@ -3,7 +3,6 @@
 #![tactic(auto)]
 
 #[cfg(test)]
-mod asserts;
 #[cfg(test)]
 mod endless_reader;
 #[cfg(test)]

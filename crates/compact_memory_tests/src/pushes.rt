@@ -1,6 +1,6 @@
 //! Runs of pushes with no memory, or with one block.
 
-use crate::asserts::{assert_equal, assert_that};
+use compact_asserts::{assert_equal, assert_that};
 use compact_edit::{PushReport, run_pushes};
 use compact_str::{Policy, Standard};
 use compact_testing::checks::{is_heap, is_inline};
@@ -12,8 +12,8 @@ use std::process::Abort;
 
 /// Asserts how many bytes were moved, and how many pushes failed.
 fn assert_counts<P: Policy>(rt: &impl Abort, report: &PushReport<P>, moved: u64, failed: usize) {
-    assert_equal(rt, report.moved, moved);
-    assert_equal(rt, report.refused, failed);
+    assert_equal!(rt, report.moved, moved);
+    assert_equal!(rt, report.refused, failed);
 }
 
 /// Asserts that one of some texts fails with only one block of `room` bytes free, how many `a`s that block then has,
@@ -31,7 +31,7 @@ fn assert_one_fails(
     drop(block);
     let report = run_pushes::<Standard>(alloc, texts);
     drop(hog);
-    assert_that(rt, is_heap(&report.value, room, ascii_text(count)));
+    assert_that!(rt, is_heap(&report.value, room, ascii_text(count)));
     assert_counts(rt, &report, moved, 1);
 }
 
@@ -53,6 +53,6 @@ fn without_memory_only_what_fits_inline_is_pushed(rt: HostRuntime) {
     let hog = take_all(alloc).expect(&rt, "room for the list of blocks");
     let report = run_pushes::<Slow>(alloc, &texts);
     drop(hog);
-    assert_that(&rt, is_inline(&report.value, ascii_text(24)));
+    assert_that!(&rt, is_inline(&report.value, ascii_text(24)));
     assert_counts(&rt, &report, 0, 2);
 }

@@ -1,7 +1,7 @@
 //! Two hundred random lists of texts, pushed under each growth policy. The numbers come from a program in Python that
 //! draws the same lists and follows the rules of growth.
 
-use crate::asserts::assert_equal;
+use compact_asserts::assert_equal;
 use compact_edit::{PushReport, run_pushes};
 use compact_str::{Policy, Standard};
 use compact_testing::memory::take_all;
@@ -80,10 +80,10 @@ fn assert_total(
     refused: u64,
     checksum: u64,
 ) {
-    assert_equal(rt, totals.bytes, bytes);
-    assert_equal(rt, totals.moved, moved);
-    assert_equal(rt, totals.refused, refused);
-    assert_equal(rt, totals.checksum, checksum);
+    assert_equal!(rt, totals.bytes, bytes);
+    assert_equal!(rt, totals.moved, moved);
+    assert_equal!(rt, totals.refused, refused);
+    assert_equal!(rt, totals.checksum, checksum);
 }
 
 #[test]

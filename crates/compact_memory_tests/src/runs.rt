@@ -1,6 +1,6 @@
 //! Runs of edits with no memory.
 
-use crate::asserts::{assert_equal, assert_that};
+use compact_asserts::{assert_equal, assert_that};
 use compact_edit::{Edit, Reply, run};
 use compact_str::{CompactString, Standard};
 use compact_testing::checks::{is_at, is_heap, is_inline, is_static};
@@ -39,9 +39,9 @@ fn run_drain(
 
 /// Asserts that these are `count` times `Done`.
 fn assert_done(rt: &impl Abort, replies: &[Reply<Standard>], count: usize) {
-    assert_equal(rt, replies.len(), count);
+    assert_equal!(rt, replies.len(), count);
     for reply in replies {
-        assert_that(rt, matches!(reply, Reply::Done));
+        assert_that!(rt, matches!(reply, Reply::Done));
     }
 }
 
@@ -63,8 +63,8 @@ fn an_edit_without_room_for_its_reply_is_not_run(rt: HostRuntime) {
     let hog = take_all(alloc).expect(rt, "room for the list of blocks");
     let outcome = run(&mut value, &[Edit::Clear], &mut replies);
     drop(hog);
-    assert_that(rt, outcome.is_err());
-    assert_that(rt, is_inline(&value, "abc"));
+    assert_that!(rt, outcome.is_err());
+    assert_that!(rt, is_inline(&value, "abc"));
     assert_done(rt, &replies, 4);
 }
 
@@ -90,7 +90,7 @@ fn is_not_begun(rt: &impl Abort, value: &mut CompactString, replies: &mut Vec<Re
         Edit::Clear,
         Edit::PushStr("x"),
     ];
-    assert_that(rt, run(value, &edits, replies).is_err());
+    assert_that!(rt, run(value, &edits, replies).is_err());
 }
 
 /// An empty list needs no room.
@@ -104,7 +104,7 @@ fn a_list_without_room_for_its_replies_is_not_begun(rt: HostRuntime) {
     is_not_begun(rt, &mut value, &mut replies);
     run_all(rt, &mut value, &[], &mut replies);
     drop(hog);
-    assert_that(rt, is_inline(&value, "abc"));
+    assert_that!(rt, is_inline(&value, "abc"));
     assert_done(rt, &replies, 40);
 }
 
@@ -141,18 +141,18 @@ fn a_bad_position_is_reported_before_an_allocation(rt: HostRuntime) {
     run_bad_positions(rt, &mut lasting, &mut replies);
     run_bad_positions(rt, &mut made, &mut replies);
     drop(hog);
-    assert_that(rt, is_at(&lasting, "static", 29, text()));
-    assert_that(rt, is_at(&made, "heap", 32, text()));
-    assert_equal(rt, replies.len(), 12);
+    assert_that!(rt, is_at(&lasting, "static", 29, text()));
+    assert_that!(rt, is_at(&made, "heap", 32, text()));
+    assert_equal!(rt, replies.len(), 12);
     for reply in &replies {
-        assert_that(rt, matches!(reply, Reply::BadPosition));
+        assert_that!(rt, matches!(reply, Reply::BadPosition));
     }
 }
 
 /// Asserts whether an edit failed.
 fn assert_failed(rt: &impl Abort, replies: &[Reply<Standard>], place: usize, failed: bool) {
     let reply = replies.get(place).expect(rt, "a reply");
-    assert_equal(rt, matches!(reply, Reply::Refused(_)), failed);
+    assert_equal!(rt, matches!(reply, Reply::Refused(_)), failed);
 }
 
 #[test]
@@ -167,7 +167,7 @@ fn a_drain_fails_if_its_reply_needs_the_heap(rt: HostRuntime) {
     drop(hog);
     assert_failed(rt, replies.as_slice(), 0, true);
     assert_failed(rt, replies.as_slice(), 1, false);
-    assert_that(rt, is_heap(&value, 60, ascii_text(36)));
+    assert_that!(rt, is_heap(&value, 60, ascii_text(36)));
 }
 
 #[test]
@@ -182,7 +182,7 @@ fn a_drain_that_has_its_reply_fails_to_copy_the_rest(rt: HostRuntime) {
     run_drain(rt, &mut value, 0, 30, &mut replies);
     drop(hog);
     assert_failed(rt, replies.as_slice(), 0, true);
-    assert_that(rt, is_static(&value, ascii_text(80)));
+    assert_that!(rt, is_static(&value, ascii_text(80)));
 }
 
 #[test]
@@ -199,5 +199,5 @@ fn a_drain_of_60_bytes_fails_at_each_allocation(rt: HostRuntime) {
     drop(hog);
     assert_failed(rt, replies.as_slice(), 0, true);
     assert_failed(rt, replies.as_slice(), 1, true);
-    assert_that(rt, is_static(&value, ascii_text(60)));
+    assert_that!(rt, is_static(&value, ascii_text(60)));
 }

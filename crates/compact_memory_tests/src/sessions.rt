@@ -1,6 +1,6 @@
 //! Sessions with no memory: for the reader's buffer, a line, its flags, or the reply to the first edit.
 
-use crate::asserts::assert_equal;
+use compact_asserts::assert_equal;
 use compact_lines::run_lines;
 use compact_testing::memory::{Hog, take_all};
 use std::alloc::Global;
@@ -57,9 +57,9 @@ impl Read for Scarce {
 fn assert_fails(rt: &impl Abort, alloc: Global, first: &'static [u8]) {
     let mut reader = Scarce::new(alloc, first, 16);
     let mut output = Vec::with_capacity(alloc, 1000).expect(rt, "memory");
-    assert_equal(rt, run_lines(alloc, &mut reader, &mut output), 0);
+    assert_equal!(rt, run_lines(alloc, &mut reader, &mut output), 0);
     let printed: &[u8] = b"refused\ninline 0 24 \ndone\ninline 1 24 b\n";
-    assert_equal(rt, output.as_slice(), printed);
+    assert_equal!(rt, output.as_slice(), printed);
 }
 
 #[test]
@@ -80,18 +80,18 @@ fn a_reader_without_memory_for_its_buffer_ends_with_1(rt: HostRuntime) {
     let mut input: &[u8] = b"clear\n";
     let mut nothing: &[u8] = b"";
     let hog = take_all(alloc).expect(rt, "room for the list of blocks");
-    assert_equal(rt, run_lines(alloc, &mut input, &mut output), 1);
-    assert_equal(rt, run_lines(alloc, &mut nothing, &mut output), 1);
+    assert_equal!(rt, run_lines(alloc, &mut input, &mut output), 1);
+    assert_equal!(rt, run_lines(alloc, &mut nothing, &mut output), 1);
     drop(hog);
-    assert_equal(rt, output.len(), 0);
+    assert_equal!(rt, output.len(), 0);
 }
 
 /// Asserts that a session with only a block of `left` bytes for its first line ends with 1, and prints nothing.
 fn assert_stops(rt: &impl Abort, alloc: Global, first: &'static [u8], left: usize) {
     let mut reader = Scarce::new(alloc, first, left);
     let mut output = Vec::with_capacity(alloc, 1000).expect(rt, "memory");
-    assert_equal(rt, run_lines(alloc, &mut reader, &mut output), 1);
-    assert_equal(rt, output.len(), 0);
+    assert_equal!(rt, run_lines(alloc, &mut reader, &mut output), 1);
+    assert_equal!(rt, output.len(), 0);
 }
 
 #[test]

@@ -1,6 +1,6 @@
 //! The tokenizer with no memory.
 
-use crate::asserts::{assert_equal, assert_that};
+use compact_asserts::{assert_equal, assert_that};
 use compact_edit::{InternError, Interner};
 use compact_testing::memory::take_all;
 use compact_testing::values::{ascii_text, value_of};
@@ -14,9 +14,9 @@ fn assert_fails(rt: &impl Abort, alloc: Global, names: &mut Interner, text: &str
     let hog = take_all(alloc).expect(rt, "room for the list of blocks");
     let tokens = tokenize(alloc, names, &text);
     drop(hog);
-    assert_that(rt, matches!(tokens, Err(InternError::Reserve(_))));
-    assert_equal(rt, names.name(0), Some("ab"));
-    assert_equal(rt, names.len(), 1);
+    assert_that!(rt, matches!(tokens, Err(InternError::Reserve(_))));
+    assert_equal!(rt, names.name(0), Some("ab"));
+    assert_equal!(rt, names.len(), 1);
 }
 
 #[test]
@@ -24,7 +24,7 @@ fn a_tokenizer_that_fails_leaves_the_names(rt: HostRuntime) {
     let rt = &rt;
     let alloc = rt.alloc();
     let mut names = Interner::new(alloc);
-    assert_equal(rt, names.intern("ab").expect(rt, "memory"), 0);
+    assert_equal!(rt, names.intern("ab").expect(rt, "memory"), 0);
     for text in ["ab ab", ascii_text(30)] {
         assert_fails(rt, alloc, &mut names, text);
     }

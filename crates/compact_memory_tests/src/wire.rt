@@ -1,7 +1,7 @@
 //! The wire form with no memory. The bytes read until an allocation fails show how much was being allocated.
 
-use crate::asserts::{assert_equal, assert_that};
 use crate::endless_reader::EndlessReader;
+use compact_asserts::{assert_equal, assert_that};
 use compact_ext::wire::{Records, WireError, read_wire, write_wire};
 use compact_testing::checks::is_inline;
 use compact_testing::memory::take_all;
@@ -13,7 +13,7 @@ const MEGABYTE: usize = 1 << 20;
 
 /// Asserts that an allocation failed.
 fn assert_fails<T>(rt: &impl Abort, made: &Result<T, WireError>) {
-    assert_that(rt, matches!(made, Err(WireError::Reserve(_))));
+    assert_that!(rt, matches!(made, Err(WireError::Reserve(_))));
 }
 
 /// Asserts that the allocation for a text of `len` bytes fails after the reader has given `given`, including the
@@ -21,7 +21,7 @@ fn assert_fails<T>(rt: &impl Abort, made: &Result<T, WireError>) {
 fn assert_stops(rt: &impl Abort, alloc: Global, len: u32, given: usize) {
     let mut reader = EndlessReader::new(len, 16 * MEGABYTE);
     assert_fails(rt, &read_wire(alloc, &mut reader));
-    assert_equal(rt, reader.given, given);
+    assert_equal!(rt, reader.given, given);
 }
 
 #[test]
@@ -67,12 +67,12 @@ fn a_vector_that_cannot_grow_is_a_writer_that_fails(rt: HostRuntime) {
     let text = short(alloc, "Hi");
     let mut bytes = Vec::new(alloc);
     let hog = take_all(alloc).expect(&rt, "room for the list of blocks");
-    assert_that(
+    assert_that!(
         &rt,
         matches!(write_wire(&text, &mut bytes), Err(WireError::Io(_))),
     );
     drop(hog);
-    assert_equal(&rt, bytes.len(), 0);
+    assert_equal!(&rt, bytes.len(), 0);
 }
 
 #[test]
@@ -81,22 +81,22 @@ fn a_long_text_is_read_in_several_steps(rt: HostRuntime) {
     let alloc = rt.alloc();
     let mut short = EndlessReader::new(0x0010_0001, 1_048_576);
     let ended = read_wire(alloc, &mut short);
-    assert_that(rt, matches!(ended, Err(WireError::UnexpectedEnd)));
-    assert_equal(rt, short.given, 4 + 1_048_576);
+    assert_that!(rt, matches!(ended, Err(WireError::UnexpectedEnd)));
+    assert_equal!(rt, short.given, 4 + 1_048_576);
     let mut whole = EndlessReader::new(0x0010_0001, 1_048_577);
     let text = read_wire(alloc, &mut whole).expect(rt, "a text");
-    assert_that(rt, text.is_heap_allocated());
-    assert_equal(rt, text.len(), 1_048_577);
-    assert_equal(rt, text.capacity(), 1_048_577);
+    assert_that!(rt, text.is_heap_allocated());
+    assert_equal!(rt, text.len(), 1_048_577);
+    assert_equal!(rt, text.capacity(), 1_048_577);
 }
 
 /// Asserts that the next records are these texts, inline, and that no more come.
 fn assert_rest(rt: &impl Abort, mut records: Records<&[u8]>, texts: &[&str]) {
     for text in texts {
         let item = records.next().expect(rt, "no end");
-        assert_that(rt, is_inline(&item.expect(rt, "a text"), text));
+        assert_that!(rt, is_inline(&item.expect(rt, "a text"), text));
     }
-    assert_that(rt, records.next().is_none());
+    assert_that!(rt, records.next().is_none());
 }
 
 /// Asserts that the first record of some bytes fails, and that its text is then read as these records.

@@ -1,7 +1,8 @@
 //! Decoding with no memory: bytes in two pieces, and which error comes first.
 
-use crate::asserts::{assert_equal, assert_fitted, assert_that};
+use crate::asserts::assert_fitted;
 use bytes::Buf;
+use compact_asserts::{assert_equal, assert_that};
 use compact_str::{CompactString, FromUtf8Error, FromUtf16Error, ReserveError};
 use compact_testing::memory::take_all;
 use compact_testing::values::ascii_text;
@@ -15,7 +16,7 @@ fn read_whole<B: Buf>(
     buf: &mut B,
 ) -> Result<CompactString, FromUtf8Error> {
     let made = CompactString::from_utf8_buf(alloc, buf);
-    assert_equal(rt, buf.remaining(), 0);
+    assert_equal!(rt, buf.remaining(), 0);
     made
 }
 
@@ -54,10 +55,10 @@ fn pieces_of_24_bytes_need_no_memory(rt: HostRuntime) {
     let hog = take_all(alloc).expect(rt, "room for the list of blocks");
     assert_read(rt, alloc, "€€€€€€€€");
     let invalid = of_two(rt, alloc, b"a\xF0\x9F\x92", 2).err();
-    assert_that(rt, invalid == error_at(1, None));
+    assert_that!(rt, invalid == error_at(1, None));
     let mut long = Buf::chain(ascii_text(12).as_bytes(), ascii_text(13).as_bytes());
     let made = CompactString::from_utf8_buf(alloc, &mut long);
-    assert_that(rt, matches!(made, Err(FromUtf8Error::Reserve(_))));
+    assert_that!(rt, matches!(made, Err(FromUtf8Error::Reserve(_))));
     drop(hog);
 }
 
@@ -69,11 +70,11 @@ fn after_a_failed_allocation_the_end_of_a_buffer_can_be_read(rt: HostRuntime) {
     let hog = take_all(alloc).expect(rt, "room for the list of blocks");
     let made = CompactString::from_utf8_buf(alloc, &mut buf);
     drop(hog);
-    assert_that(rt, matches!(made, Err(FromUtf8Error::Reserve(_))));
+    assert_that!(rt, matches!(made, Err(FromUtf8Error::Reserve(_))));
     let len = buf.remaining();
     let rest = read_whole(rt, alloc, &mut buf).ok().expect(rt, "a text");
-    assert_equal(rt, rest.len(), len);
-    assert_that(
+    assert_equal!(rt, rest.len(), len);
+    assert_that!(
         rt,
         "abcdefghijklmnopqrstuvwxyzABCD".ends_with(rest.as_str()),
     );
@@ -81,7 +82,7 @@ fn after_a_failed_allocation_the_end_of_a_buffer_can_be_read(rt: HostRuntime) {
 
 /// Asserts that units are invalid.
 fn assert_invalid_units(rt: &impl Abort, made: Result<CompactString, FromUtf16Error>) {
-    assert_that(rt, matches!(made, Err(FromUtf16Error::Utf16(_))));
+    assert_that!(rt, matches!(made, Err(FromUtf16Error::Utf16(_))));
 }
 
 /// Slices are validated before allocating; a buffer is read first.
@@ -91,11 +92,11 @@ fn invalid_slices_are_reported_before_an_allocation(rt: HostRuntime) {
     let alloc = rt.alloc();
     let hog = take_all(alloc).expect(rt, "room for the list of blocks");
     let error = CompactString::from_utf8(alloc, b"aaaaaaaaaaaaaaaaaaaaaaaaaaaaa\xFF").err();
-    assert_that(rt, error == error_at(29, Some(1)));
+    assert_that!(rt, error == error_at(29, Some(1)));
     assert_invalid_units(rt, CompactString::from_utf16(alloc, &[0xDC00; 30]));
     assert_invalid_units(rt, CompactString::from_utf16le(alloc, &[0x61; 59]));
     let mut invalid = b"\xFFaaaaaaaaaaaaaaaaaaaaaaaaaaaaa".as_slice();
     let failed = CompactString::from_utf8_buf(alloc, &mut invalid).err();
-    assert_that(rt, failed == Some(FromUtf8Error::Reserve(ReserveError)));
+    assert_that!(rt, failed == Some(FromUtf8Error::Reserve(ReserveError)));
     drop(hog);
 }

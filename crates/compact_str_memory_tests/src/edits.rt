@@ -1,6 +1,7 @@
 //! Edits with no memory, beyond what `compact_table_tests` tries of each call.
 
-use crate::asserts::{assert_equal, assert_heap, assert_inline, assert_that};
+use crate::asserts::{assert_heap, assert_inline};
+use compact_asserts::{assert_equal, assert_that};
 use compact_str::append_all;
 use compact_testing::checks::is_static;
 use compact_testing::memory::take_all;
@@ -33,9 +34,9 @@ fn a_retain_that_fails_has_not_called_its_closure(rt: HostRuntime) {
         false
     });
     drop(hog);
-    assert_that(rt, kept.is_err());
-    assert_that(rt, !called);
-    assert_that(rt, is_static(&value, ascii_text(30)));
+    assert_that!(rt, kept.is_err());
+    assert_that!(rt, !called);
+    assert_that!(rt, is_static(&value, ascii_text(30)));
 }
 
 #[test]
@@ -47,7 +48,7 @@ fn more_than_1024_bytes_are_written_by_a_buffer_of_their_own(rt: HostRuntime) {
     let past_the_block = write!(roomy, "{:>1100}", 7).is_err();
     let fits_the_block = write!(roomy, "{}", "ab").is_ok();
     drop(hog);
-    assert_that(rt, past_the_block && fits_the_block);
+    assert_that!(rt, past_the_block && fits_the_block);
     assert_heap(rt, &roomy, 3000, "ab");
 }
 
@@ -59,10 +60,10 @@ fn a_write_reports_a_failure_that_a_display_hides(rt: HostRuntime) {
     let hog = take_all(alloc).expect(rt, "room for the list of blocks");
     let failed = roomy.write(Hiding).is_err();
     drop(hog);
-    assert_that(rt, failed);
+    assert_that!(rt, failed);
     assert_heap(rt, &roomy, 3000, "");
     roomy.write(Hiding).expect(rt, "memory");
-    assert_equal(rt, roomy.len(), 1600);
+    assert_equal!(rt, roomy.len(), 1600);
 }
 
 #[test]
@@ -75,10 +76,10 @@ fn an_extension_that_fails_leaves_the_later_items(rt: HostRuntime) {
     let hog = take_all(alloc).expect(rt, "room for the list of blocks");
     let failed = value.extend_texts(&mut items).is_err();
     drop(hog);
-    assert_that(rt, failed);
+    assert_that!(rt, failed);
     assert_inline(rt, &value, "ab");
-    assert_that(rt, items.next().is_some_and(|text| *text == "c"));
-    assert_that(rt, items.next().is_none());
+    assert_that!(rt, items.next().is_some_and(|text| *text == "c"));
+    assert_that!(rt, items.next().is_none());
 }
 
 #[test]
@@ -91,8 +92,8 @@ fn an_append_to_a_string_that_fails_leaves_the_later_items(rt: HostRuntime) {
     let hog = take_all(alloc).expect(rt, "room for the list of blocks");
     let failed = append_all(&mut line, &mut items).is_err();
     drop(hog);
-    assert_that(rt, failed);
-    assert_equal(rt, line.as_str(), "ab");
-    assert_that(rt, items.next().is_some_and(|text| *text == "c"));
-    assert_that(rt, items.next().is_none());
+    assert_that!(rt, failed);
+    assert_equal!(rt, line.as_str(), "ab");
+    assert_that!(rt, items.next().is_some_and(|text| *text == "c"));
+    assert_that!(rt, items.next().is_none());
 }

@@ -1,7 +1,7 @@
 //! The memory that serde takes to read a record of short texts: only the reader's, since a record that borrows its
 //! texts takes as much.
 
-use crate::asserts::assert_equal;
+use compact_asserts::assert_equal;
 use compact_str::CompactString;
 use compact_testing::memory::take_all;
 use serde::Deserialize;
@@ -78,10 +78,10 @@ fn are_read(rt: &impl Abort, alloc: Global, count: usize) -> [bool; 3] {
 
 #[test]
 fn with_no_memory_no_record_is_read(rt: HostRuntime) {
-    assert_equal(&rt, are_read(&rt, rt.alloc(), 0), [false, false, false]);
+    assert_equal!(&rt, are_read(&rt, rt.alloc(), 0), [false, false, false]);
 }
 
 #[test]
 fn with_a_block_of_each_size_all_but_strings_are_read(rt: HostRuntime) {
-    assert_equal(&rt, are_read(&rt, rt.alloc(), 1), [true, true, false]);
+    assert_equal!(&rt, are_read(&rt, rt.alloc(), 1), [true, true, false]);
 }

@@ -1,8 +1,9 @@
 //! Items with a useless or too large hint: each call depends only on the items.
 
-use crate::asserts::{assert_equal, assert_inline, assert_that};
+use crate::asserts::assert_inline;
 use crate::hinting_iterator::with_hint;
 use crate::results::assert_made;
+use compact_asserts::{assert_equal, assert_that};
 use compact_str::{CompactString, CompactStringExt, append_all};
 use compact_testing::checks::is_at;
 use compact_testing::values::{ascii_text, short};
@@ -121,8 +122,8 @@ pub fn assert_appended(
     values: &[CompactString],
     too_much: bool,
 ) {
-    assert_that(rt, append_all(line, with_hint(values, too_much)).is_ok());
-    assert_equal(rt, line.as_str(), "abc");
+    assert_that!(rt, append_all(line, with_hint(values, too_much)).is_ok());
+    assert_equal!(rt, line.as_str(), "abc");
     line.clear();
 }
 
@@ -149,20 +150,20 @@ fn assert_room(rt: &impl Abort, alloc: Global, too_much: bool) {
     value
         .extend_texts(with_hint(&["", ""], too_much))
         .expect(rt, "no memory is needed");
-    assert_that(rt, is_at(&value, "static", 30, ascii_text(30)));
+    assert_that!(rt, is_at(&value, "static", 30, ascii_text(30)));
     value
         .extend_texts(with_hint(&["a"], too_much))
         .expect(rt, "memory");
-    assert_that(rt, is_at(&value, "heap", 45, ascii_text(31)));
+    assert_that!(rt, is_at(&value, "heap", 45, ascii_text(31)));
     let mut value = short(alloc, ascii_text(24));
     value
         .extend_chars(with_hint(&['a'], too_much).copied())
         .expect(rt, "memory");
-    assert_that(rt, is_at(&value, "heap", 36, ascii_text(25)));
+    assert_that!(rt, is_at(&value, "heap", 36, ascii_text(25)));
     value
         .extend(with_hint(&["a", ""], too_much))
         .expect(rt, "memory");
-    assert_that(rt, is_at(&value, "heap", 36, ascii_text(26)));
+    assert_that!(rt, is_at(&value, "heap", 36, ascii_text(26)));
 }
 
 #[test]

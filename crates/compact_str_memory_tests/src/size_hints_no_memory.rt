@@ -1,12 +1,13 @@
 //! The same with no memory: up to 24 bytes succeed and more fail, whatever the hint.
 
-use crate::asserts::{assert_equal, assert_inline};
+use crate::asserts::assert_inline;
 use crate::hinting_iterator::with_hint;
 use crate::results::{assert_fails, values_of};
 use crate::size_hints::{
     assert_appended, assert_characters, assert_collected, assert_extended, assert_joined,
     assert_texts,
 };
+use compact_asserts::assert_equal;
 use compact_str::{CompactString, append_all};
 use compact_testing::memory::take_all;
 use compact_testing::values::ascii_text;
@@ -35,7 +36,7 @@ fn texts_are_appended_to_a_string_that_has_room(rt: HostRuntime) {
     assert_appended(rt, &mut line, &values, false);
     assert_appended(rt, &mut line, &values, true);
     drop(hog);
-    assert_equal(rt, line.capacity(), 32);
+    assert_equal!(rt, line.capacity(), 32);
 }
 
 /// Asserts that more than 24 bytes of texts or characters fail.
@@ -106,7 +107,7 @@ fn assert_append_stops(
         "append_all",
         append_all(line, with_hint(values, too_much)),
     );
-    assert_equal(rt, line.as_str(), "ab");
+    assert_equal!(rt, line.as_str(), "ab");
     line.clear();
 }
 

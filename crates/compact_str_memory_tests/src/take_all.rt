@@ -1,6 +1,6 @@
 //! Taking all memory and freeing it.
 
-use crate::asserts::assert_that;
+use compact_asserts::assert_that;
 use compact_testing::memory::take_all;
 use std::alloc::{AllocError, Global};
 
@@ -15,8 +15,8 @@ fn every_allocation_fails_until_the_hog_is_dropped(rt: HostRuntime) {
     let rt = &rt;
     let alloc = rt.alloc();
     let hog = take_all(alloc).expect(rt, "room for the list of blocks");
-    assert_that(rt, hog.block_count() > 0);
-    assert_that(rt, !has_memory(alloc));
+    assert_that!(rt, hog.block_count() > 0);
+    assert_that!(rt, !has_memory(alloc));
     drop(hog);
-    assert_that(rt, has_memory(alloc));
+    assert_that!(rt, has_memory(alloc));
 }

@@ -2,7 +2,6 @@
 #![tactic(auto)]
 
 #[cfg(test)]
-mod asserts;
 #[cfg(test)]
 mod ranking;
 #[cfg(test)]

@@ -1,6 +1,6 @@
 //! The report: columns counted in characters, and records that are too short.
 
-use crate::asserts::assert_equal;
+use compact_asserts::assert_equal;
 use compact_str::CompactString;
 use compact_testing::values::value_of;
 use compact_uses::aligned_rows;
@@ -19,7 +19,7 @@ fn fields_of(rt: &impl Abort, alloc: Global, texts: &[&str]) -> Vec<CompactStrin
 }
 
 fn assert_line(rt: &impl Abort, lines: &Vec<CompactString>, index: usize, text: &str) {
-    assert_equal(rt, lines.get(index).map(|line| line.as_str()), Some(text));
+    assert_equal!(rt, lines.get(index).map(|line| line.as_str()), Some(text));
 }
 
 // The widths are 2, 5 and 1 characters; the fields have more bytes.
@@ -33,7 +33,7 @@ fn columns_are_as_wide_as_their_longest_field_in_characters(rt: HostRuntime) {
         fields_of(rt, alloc, &[]),
     ];
     let lines = aligned_rows(alloc, &table).expect(rt, "memory");
-    assert_equal(rt, lines.len(), 3);
+    assert_equal!(rt, lines.len(), 3);
     assert_line(rt, &lines, 0, "| a  | größe | 1 |");
     assert_line(rt, &lines, 1, "| 😀字 | b     |   |");
     assert_line(rt, &lines, 2, "|    |       |   |");
@@ -42,5 +42,5 @@ fn columns_are_as_wide_as_their_longest_field_in_characters(rt: HostRuntime) {
 #[test]
 fn no_records_have_no_lines(rt: HostRuntime) {
     let lines = aligned_rows(rt.alloc(), &[]).expect(&rt, "memory");
-    assert_equal(&rt, lines.len(), 0);
+    assert_equal!(&rt, lines.len(), 0);
 }

@@ -1,6 +1,6 @@
 //! The tokenizer: characters of each width.
 
-use crate::asserts::{assert_equal, assert_that};
+use compact_asserts::{assert_equal, assert_that};
 use compact_edit::Interner;
 use compact_testing::values::value_of;
 use compact_uses::{Kind, Token, tokenize};
@@ -9,7 +9,7 @@ use std::process::Abort;
 
 /// Asserts the kind and number of a token.
 fn assert_token(rt: &impl Abort, token: Option<Token>, kind: Kind, name: u32) {
-    assert_that(rt, token == Some(Token { kind, name }));
+    assert_that!(rt, token == Some(Token { kind, name }));
 }
 
 /// Tokenizes a text.
@@ -38,7 +38,7 @@ fn assert_tokens(rt: &impl Abort, tokens: &[Token], letters: &str, numbers: &[u3
 /// Asserts the names of some numbers.
 fn assert_names(rt: &impl Abort, names: &Interner, wanted: &[(u32, &str)]) {
     for (number, name) in wanted {
-        assert_equal(rt, names.name(*number), Some(*name));
+        assert_equal!(rt, names.name(*number), Some(*name));
     }
 }
 
@@ -50,11 +50,11 @@ fn characters_of_each_width_are_cut_by_their_kind(rt: HostRuntime) {
     let mut names = Interner::new(alloc);
     let text = "ab, 12 éß字٣\u{a0}😀😀x";
     let tokens = tokens_of(rt, alloc, &mut names, text);
-    assert_equal(rt, tokens.len(), 11);
+    assert_equal!(rt, tokens.len(), 11);
     let numbers = [0, 1, 2, 3, 2, 4, 5, 6, 7, 7, 8];
     assert_tokens(rt, &tokens, "w.snswns..w", &numbers);
     assert_names(rt, &names, &[(4, "éß字"), (6, "\u{a0}"), (7, "😀")]);
-    assert_equal(rt, names.len(), 9);
+    assert_equal!(rt, names.len(), 9);
 }
 
 #[test]
@@ -62,6 +62,6 @@ fn an_empty_text_has_no_tokens(rt: HostRuntime) {
     let alloc = rt.alloc();
     let mut names = Interner::new(alloc);
     let tokens = tokens_of(&rt, alloc, &mut names, "");
-    assert_equal(&rt, tokens.len(), 0);
-    assert_equal(&rt, names.len(), 0);
+    assert_equal!(&rt, tokens.len(), 0);
+    assert_equal!(&rt, names.len(), 0);
 }
