@@ -12,8 +12,11 @@ use compact_text::{slices, vec};
 use std::alloc::{AllocError, Global};
 use std::marker::Model;
 
-/// The length above which one call copies faster than blocks, and the capacity above which a buffer is enlarged in place.
-const LONG: usize = 512;
+/// The length above which one call copies faster than blocks.
+const LONG: usize = 64;
+
+/// The greatest capacity to which a buffer grows by a copy.
+const MAX_COPIED: usize = 512;
 
 /// The bytes of the vector are the text. Its spare capacity may hold old bytes.
 ///
@@ -126,7 +129,7 @@ impl HeapBuffer {
         ensures ok { OnOk result (self.new ≡ record { text = self.old.text; capacity = capacity }) }
         ensures err { OnErr result (self.new ≡ self.old) }
     {
-        if capacity <= LONG {
+        if capacity <= MAX_COPIED {
             // The system finds a small new buffer sooner than it enlarges one.
             let alloc = *self.bytes.allocator();
             *self = HeapBuffer::copy_of(alloc, self.as_str(), capacity)?;
