@@ -169,7 +169,7 @@ fn changed(n: u64, text: &str) -> u64 {
 
 fn formatted(n: u64, names: Vec<String>) -> u64 {
     let numbers = numbers().into_iter().map(|number| number % 1_000_000);
-    let pairs: Vec<(&String, u64)> = names.iter().cycle().zip(numbers).collect();
+    let pairs: Vec<(&String, u64)> = names.iter().zip(numbers).collect();
     ringed(n, &pairs, |(name, number)| shown_pair(name, *number))
 }
 

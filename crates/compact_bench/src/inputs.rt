@@ -208,15 +208,13 @@ pub struct Named {
     pub number: u64,
 }
 
-/// The texts in turn, with 4096 numbers.
+/// The texts, each with a number.
 pub fn with_numbers(alloc: Global, texts: Made<String>) -> Made<Named> {
-    let texts = texts?;
     let mut all = Vec::new(alloc);
     let mut numbers = numbers(alloc)?.into_iter();
-    for text in texts.iter().cycle().take(4096) {
-        let name = String::from_str(alloc, text.as_str())?;
+    for text in texts? {
         let number = numbers.next().unwrap_or(0) % 1_000_000;
-        push_item(&mut all, Named { name, number })?;
+        push_item(&mut all, Named { name: text, number })?;
     }
     Ok(all)
 }

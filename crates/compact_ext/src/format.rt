@@ -1,15 +1,18 @@
 //! Strings from formats.
-ghost use Rattle.std.specs.Prelude.{◌≡◌, IfOk, IfSome, IsTrue, length, OnOk, OnErr};
+ghost use Rattle.std.specs.Prelude.{◌≡◌, ◌+◌, ◌<◌, ◌++◌, IfOk, IfSome, IsTrue, length, OnOk, OnErr};
 ghost use Rattle.compact_str.specs.Text.{text_of, utf8};
-ghost use Rattle.compact_str.specs.Output.{Writes};
+ghost use Rattle.compact_str.specs.Output.{AppendsUtf8};
 ghost use Rattle.compact_str.specs.Room.{IsPlacedBySize};
-ghost use Rattle.compact_str.specs.Words.{AllocatesFor, room_to_append, standard_growth};
+ghost use Rattle.compact_str.specs.Words.{INLINE_CAPACITY, size};
 
-use compact_str::{CompactString, ReserveError};
+use compact_str::{CompactString, INLINE_CAPACITY, ReserveError};
 use std::alloc::Global;
 use std::fmt;
 use std::fmt::{Display, Write};
 use thiserror::Error;
+
+/// The bytes of room after the text that moves to the heap.
+const MORE: usize = 32;
 
 /// The error of `format_compact!` and `to_compact_string`.
 #[derive(Clone, Copy, Debug, PartialEq, Error)]
@@ -53,25 +56,48 @@ struct Collector {
 }
 
 impl Write for Collector {
-    ghost write_str_gives = { λ c bytes d. Writes standard_growth c.value bytes d.value };
+    ghost write_str_gives = { λ c bytes d. AppendsUtf8 c.value.text bytes d.value.text };
 
     #[inline]
     fn write_str(&mut self, s: &str) -> fmt::Result
-        ensures ok { OnOk result (Writes standard_growth self.old.value s.now self.new.value) }
+        ensures ok { OnOk result (AppendsUtf8 self.old.value.text s.now self.new.value.text) }
         ensures kept { OnOk result (self.new.is_refused ≡ self.old.is_refused) }
         ensures allocates { OnErr result
-            (AllocatesFor self.old.value (room_to_append (length s.now))) }
+            (INLINE_CAPACITY < size self.old.value.text + length s.now) }
         ensures err { OnErr result
             ((self.new.value ≡ self.old.value) × IsTrue self.new.is_refused) }
     {
-        match self.value.write_str(s) {
+        let pushed = if s.len() > INLINE_CAPACITY {
+            push_with_room(&mut self.value, s)
+        } else {
+            self.value.push_str(s)
+        };
+        match pushed {
             Ok(()) => Ok(()),
-            Err(error) => {
+            Err(ReserveError) => {
                 self.is_refused = true;
-                Err(error)
+                Err(fmt::Error)
             }
         }
     }
+}
+
+/// Appends a `text` of more than 24 bytes. If it is the first on the heap, the buffer gets room for 32 bytes more, so that a
+/// short end needs no second one.
+#[inline(never)]
+#[tactic(auto, using(compact_str::proofs::DecodedValues::by_size_facts))]
+fn push_with_room(value: &mut CompactString, text: &str) -> Result<(), ReserveError>
+    requires fitted { IsPlacedBySize value.old }
+    requires long { INLINE_CAPACITY < length text.now }
+    ensures place { OnOk result (IsPlacedBySize value.new) }
+    ensures text { OnOk result (value.new.text ≡ value.old.text ++ text_of text.now) }
+    ensures allocates { OnErr result (INLINE_CAPACITY < size value.old.text + length text.now) }
+    ensures err { OnErr result (value.new ≡ value.old) }
+{
+    if !value.is_heap_allocated() {
+        value.reserve(text.len().saturating_add(MORE))?;
+    }
+    value.push_str(text)
 }
 
 /// Displays `shown` into a new string, for `format_compact!`. The result is inline up to 24 bytes, else on the heap.

@@ -24,7 +24,7 @@ shown-parts t u (part ∷ parts) (x, first, rest) =
     )
 
 -- from an empty text, it is just what was written
-shown-whole : (t u bytes : List ℕ) → t ≡ [] → WritesInCalls AppendsUtf8 t bytes u → IsUtf8 bytes × (u ≡ text_of bytes)
+pub shown-whole : (t u bytes : List ℕ) → t ≡ [] → WritesInCalls AppendsUtf8 t bytes u → IsUtf8 bytes × (u ≡ text_of bytes)
 shown-whole t u bytes empty writes =
     let all = subst (λ b. AppendsUtf8 t b u) writes.whole (shown-parts t u writes.parts writes.calls) in
     (all.0, all.1 ∙ ap (λ s. s ++ text_of bytes) empty)

@@ -6,10 +6,10 @@ use Rattle.compact_ext.proofs.format.collect_display.Goals as goal
 
 pub returns-clause-text : goal.returns-clause-text
 returns-clause-text g c =
-    taken-text _ (g.D.Display.output c.args.shown) _ _ c.in_ok-written.ensures.writes
+    taken-text (g.D.Display.output c.args.shown) _ _ c.in_ok-written.ensures.writes
     (ap (λ (v : PlacedText). v.text) c.default.ensures.value)
 
 pub returns-clause-bytes : goal.returns-clause-bytes
 returns-clause-bytes g c =
-    taken-bytes _ (g.D.Display.output c.args.shown) _ _ c.in_ok-written.ensures.writes
+    taken-bytes (g.D.Display.output c.args.shown) _ _ c.in_ok-written.ensures.writes
     (ap (λ (v : PlacedText). v.text) c.default.ensures.value)
