@@ -73,6 +73,22 @@ fn up_to_24_bytes_are_inline_and_more_on_the_heap(rt: HostRuntime) {
     assert_equal!(rt, text.as_str(), "aaaaaaaaaaaaaaaaaaaa12345");
 }
 
+/// The buffer that a piece of more than 24 bytes takes has room for 32 more.
+#[test]
+fn a_long_piece_and_a_short_end_take_one_buffer(rt: HostRuntime) {
+    let rt = &rt;
+    let alloc = rt.alloc();
+    let text = text_of(rt, format_compact!(in alloc; "{}-{}", ascii_text(25), 7));
+    assert_equal!(rt, text.as_str(), "aaaaaaaaaaaaaaaaaaaaaaaaa-7");
+    assert_equal!(rt, text.capacity(), 57);
+    let text = text_of(rt, format_compact!(in alloc; "{}{}", 12345, ascii_text(25)));
+    assert_equal!(rt, text.as_str(), "12345aaaaaaaaaaaaaaaaaaaaaaaaa");
+    assert_equal!(rt, text.capacity(), 62);
+    let text = text_of(rt, format_compact!(in alloc; "{}{}", ascii_text(25), ascii_text(33)));
+    assert_equal!(rt, text.len(), 58);
+    assert_equal!(rt, text.capacity(), 58);
+}
+
 #[test]
 fn a_long_format_is_made(rt: HostRuntime) {
     let rt = &rt;
