@@ -44,19 +44,18 @@ pub fn reversed(alloc: Global, line: &str) -> Result<CompactString, AllocError>
     line.chars().rev().collect(alloc)
 }
 
-/// Returns a dash for a space. A closure with an `if` in the place of this function would need a proof file.
-fn dash_for_space(c: char) -> char
-    ensures { result ≡ (if nat_eq c 32 then 45 else c) }
-{
-    if c == ' ' { '-' } else { c }
-}
-
 /// Replaces each space with a dash.
 pub fn dashed(alloc: Global, line: &str) -> Result<CompactString, AllocError>
     ensures { IfOk result
         (λ v. v.text ≡ map (λ c. if nat_eq c 32 then 45 else c) (text_of line.now)) }
 {
-    line.chars().map(dash_for_space).collect(alloc)
+    line.chars()
+        .map(
+            |c|
+                ensures { result ≡ (if nat_eq c 32 then 45 else c) }
+            { if c == ' ' { '-' } else { c } },
+        )
+        .collect(alloc)
 }
 
 /// Keeps the digits.
