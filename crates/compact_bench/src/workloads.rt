@@ -10,7 +10,8 @@ use crate::loops::{
     built, changed, converted, equal, hashed, inserted_removed, ordered, replaced, wired,
 };
 use crate::make::{Collect, Copied, Format, Join, New, ShowNumber};
-use crate::run::{Kept, ours, ours_on_values};
+use crate::run::Kept::{One, Ring};
+use crate::run::{ours, ours_on_values};
 use compact_str::CompactString;
 use std::alloc::Global;
 
@@ -21,22 +22,22 @@ fn mixed(alloc: Global) -> Made<String> {
 
 #[unsafe(no_mangle)]
 pub extern "C" fn cs_bench_new_short(alloc: Global, n: u64) -> u64 {
-    ours::<New, String>(alloc, n, words(alloc, 4096, 0, 25), Kept::Ring)
+    ours::<New, String>(alloc, n, words(alloc, 4096, 0, 25), Ring)
 }
 
 #[unsafe(no_mangle)]
 pub extern "C" fn cs_bench_new_long(alloc: Global, n: u64) -> u64 {
-    ours::<New, String>(alloc, n, words(alloc, 1024, 25, 176), Kept::Ring)
+    ours::<New, String>(alloc, n, words(alloc, 1024, 25, 176), Ring)
 }
 
 #[unsafe(no_mangle)]
 pub extern "C" fn cs_bench_clone_short(alloc: Global, n: u64) -> u64 {
-    ours_on_values::<Copied>(alloc, n, words(alloc, 4096, 0, 25), Kept::Ring)
+    ours_on_values::<Copied>(alloc, n, words(alloc, 4096, 0, 25), Ring)
 }
 
 #[unsafe(no_mangle)]
 pub extern "C" fn cs_bench_clone_long(alloc: Global, n: u64) -> u64 {
-    ours_on_values::<Copied>(alloc, n, words(alloc, 1024, 25, 176), Kept::Ring)
+    ours_on_values::<Copied>(alloc, n, words(alloc, 1024, 25, 176), Ring)
 }
 
 #[unsafe(no_mangle)]
@@ -84,25 +85,25 @@ pub extern "C" fn cs_bench_into_string(alloc: Global, n: u64) -> u64 {
 #[unsafe(no_mangle)]
 pub extern "C" fn cs_bench_retain(alloc: Global, n: u64) -> u64 {
     let cuts = cuts(alloc, LETTERS, words(alloc, 16, 200, 1), [0, 0, 0, 0]);
-    ours::<Retain, Cut>(alloc, n, cuts, Kept::One)
+    ours::<Retain, Cut>(alloc, n, cuts, One)
 }
 
 #[unsafe(no_mangle)]
 pub extern "C" fn cs_bench_retain_long(alloc: Global, n: u64) -> u64 {
     let cuts = cuts(alloc, LETTERS, one(alloc, LETTERS, 1024), [0, 0, 0, 0]);
-    ours::<RetainTwo, Cut>(alloc, n, cuts, Kept::One)
+    ours::<RetainTwo, Cut>(alloc, n, cuts, One)
 }
 
 #[unsafe(no_mangle)]
 pub extern "C" fn cs_bench_drain(alloc: Global, n: u64) -> u64 {
     let cuts = cuts(alloc, LETTERS, words(alloc, 16, 200, 1), [25, 75, 0, 0]);
-    ours::<Drain, Cut>(alloc, n, cuts, Kept::One)
+    ours::<Drain, Cut>(alloc, n, cuts, One)
 }
 
 #[unsafe(no_mangle)]
 pub extern "C" fn cs_bench_drain_long(alloc: Global, n: u64) -> u64 {
     let cuts = cuts(alloc, LETTERS, one(alloc, LETTERS, 1024), [40, 60, 0, 0]);
-    ours::<Drain, Cut>(alloc, n, cuts, Kept::One)
+    ours::<Drain, Cut>(alloc, n, cuts, One)
 }
 
 #[unsafe(no_mangle)]
@@ -112,47 +113,37 @@ pub extern "C" fn cs_bench_change_letters(alloc: Global, n: u64) -> u64 {
 
 #[unsafe(no_mangle)]
 pub extern "C" fn cs_bench_utf8_ascii(alloc: Global, n: u64) -> u64 {
-    ours::<Decode, Vec<u8>>(
-        alloc,
-        n,
-        byte_texts(alloc, words(alloc, 16, 1024, 1)),
-        Kept::Ring,
-    )
+    ours::<Decode, Vec<u8>>(alloc, n, byte_texts(alloc, words(alloc, 16, 1024, 1)), Ring)
 }
 
 #[unsafe(no_mangle)]
 pub extern "C" fn cs_bench_utf8_mixed(alloc: Global, n: u64) -> u64 {
-    ours::<Decode, Vec<u8>>(alloc, n, byte_texts(alloc, mixed(alloc)), Kept::Ring)
+    ours::<Decode, Vec<u8>>(alloc, n, byte_texts(alloc, mixed(alloc)), Ring)
 }
 
 #[unsafe(no_mangle)]
 pub extern "C" fn cs_bench_utf8_lossy(alloc: Global, n: u64) -> u64 {
-    ours::<DecodeLossy, Vec<u8>>(
-        alloc,
-        n,
-        faulty_byte_texts(alloc, mixed(alloc), 63),
-        Kept::Ring,
-    )
+    ours::<DecodeLossy, Vec<u8>>(alloc, n, faulty_byte_texts(alloc, mixed(alloc), 63), Ring)
 }
 
 #[unsafe(no_mangle)]
 pub extern "C" fn cs_bench_utf8_lossy_valid(alloc: Global, n: u64) -> u64 {
-    ours::<DecodeLossy, Vec<u8>>(alloc, n, byte_texts(alloc, mixed(alloc)), Kept::Ring)
+    ours::<DecodeLossy, Vec<u8>>(alloc, n, byte_texts(alloc, mixed(alloc)), Ring)
 }
 
 #[unsafe(no_mangle)]
 pub extern "C" fn cs_bench_utf16(alloc: Global, n: u64) -> u64 {
-    ours::<DecodeUnits, Vec<u16>>(alloc, n, units(alloc, mixed(alloc)), Kept::Ring)
+    ours::<DecodeUnits, Vec<u16>>(alloc, n, units(alloc, mixed(alloc)), Ring)
 }
 
 #[unsafe(no_mangle)]
 pub extern "C" fn cs_bench_u64_text(alloc: Global, n: u64) -> u64 {
-    ours::<ShowNumber, u64>(alloc, n, shifted_numbers(alloc), Kept::Ring)
+    ours::<ShowNumber, u64>(alloc, n, shifted_numbers(alloc), Ring)
 }
 
 #[unsafe(no_mangle)]
 pub extern "C" fn cs_bench_u64_digits(alloc: Global, n: u64) -> u64 {
-    ours::<ShowNumber, u64>(alloc, n, numbers(alloc), Kept::Ring)
+    ours::<ShowNumber, u64>(alloc, n, numbers(alloc), Ring)
 }
 
 #[unsafe(no_mangle)]
@@ -161,7 +152,7 @@ pub extern "C" fn cs_bench_format(alloc: Global, n: u64) -> u64 {
         alloc,
         n,
         with_numbers(alloc, words(alloc, 1024, 1, 12)),
-        Kept::Ring,
+        Ring,
     )
 }
 
@@ -172,15 +163,10 @@ pub extern "C" fn cs_bench_wire(alloc: Global, n: u64) -> u64 {
 
 #[unsafe(no_mangle)]
 pub extern "C" fn cs_bench_collect_chars(alloc: Global, n: u64) -> u64 {
-    ours::<Collect, String>(alloc, n, one(alloc, LETTERS, 1024), Kept::One)
+    ours::<Collect, String>(alloc, n, one(alloc, LETTERS, 1024), One)
 }
 
 #[unsafe(no_mangle)]
 pub extern "C" fn cs_bench_join(alloc: Global, n: u64) -> u64 {
-    ours::<Join, Vec<String>>(
-        alloc,
-        n,
-        group(alloc, words(alloc, 100, 1, 12), 100),
-        Kept::One,
-    )
+    ours::<Join, Vec<String>>(alloc, n, group(alloc, words(alloc, 100, 1, 12), 100), One)
 }

@@ -84,7 +84,10 @@ fn a_long_piece_and_a_short_end_take_one_buffer(rt: HostRuntime) {
     let text = text_of(rt, format_compact!(in alloc; "{}{}", 12345, ascii_text(25)));
     assert_equal!(rt, text.as_str(), "12345aaaaaaaaaaaaaaaaaaaaaaaaa");
     assert_equal!(rt, text.capacity(), 62);
-    let text = text_of(rt, format_compact!(in alloc; "{}{}", ascii_text(25), ascii_text(33)));
+    let text = text_of(
+        rt,
+        format_compact!(in alloc; "{}{}", ascii_text(25), ascii_text(33)),
+    );
     assert_equal!(rt, text.len(), 58);
     assert_equal!(rt, text.capacity(), 58);
 }

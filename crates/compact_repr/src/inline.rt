@@ -208,7 +208,7 @@ impl InlineBuffer {
         ensures { self.new ≡ text_in_case case self.old }
     {
         let len = decode_len(&self.bytes);
-        slices::convert_case(&mut self.bytes, INLINE_CAPACITY, case);
+        slices::convert_case(&mut self.bytes, len, case);
         write_len(&mut self.bytes, len);
     }
 

@@ -1,8 +1,8 @@
 -- Texts with changed ASCII characters: their bytes and boundaries.
-use Rattle.std.proofs.Common.{◌≡◌, ℕ, ◌+◌, ◌-◌, ◌/◌, ◌<◌, ◌≤◌, List, [], ◌∷◌, ◌++◌, length, take, Bool, true, false, cond}
+use Rattle.std.proofs.Common.{◌≡◌, ℕ, ◌+◌, ◌-◌, ◌/◌, ◌<◌, ◌≤◌, List, [], ◌∷◌, ◌++◌, length, Bool, true, false, cond}
 use Rattle.std.proofs.Common.{refl, ap, sym, ◌∙◌, map, arith, ⊎_elim}
 use Rattle.std.proofs.lemmas.Bool.{cases_lt, le-ltb, and_parts, and_from}
-use Rattle.std.proofs.lemmas.List.{map-append, length-map, take-map, take-take}
+use Rattle.std.proofs.lemmas.List.{map-append, length-map}
 use Rattle.std.proofs.lemmas.Str.{chars_from_encodes, encode_ascii, length-encode}
 use Rattle.std.proofs.lemmas.Str.Ascii.{lowercase_ascii, lowercase_is, uppercase_ascii, uppercase_is}
 use Rattle.std.specs.Char.{len_utf8, to_ascii_lowercase, to_ascii_uppercase}
@@ -130,10 +130,3 @@ lowercase-bytes = encodes-changed to_ascii_lowercase lowercase_ascii lowercase_h
 
 pub uppercase-bytes : (t : List ℕ) → encodes (ascii_uppercase t) ≡ map to_ascii_uppercase (encodes t)
 uppercase-bytes = encodes-changed to_ascii_uppercase uppercase_ascii uppercase_high
-
--- if the first n bytes changed, so did those before them
-pub in_case-front : (case : Case) (old new : List ℕ) (k n : ℕ) → k ≤ n → take n new ≡ map (in_case case) (take n old)
-    → take k new ≡ map (in_case case) (take k old)
-in_case-front case old new k n h e =
-    sym (take-take k n new h) ∙ ap (take k) e ∙ take-map (in_case case) k (take n old)
-    ∙ ap (map (in_case case)) (take-take k n old h)
