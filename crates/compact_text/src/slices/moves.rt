@@ -1,7 +1,8 @@
 //! Overlapping moves within a byte slice.
 //!
 //! Up to 128 bytes move by both ends, which are read before either is written. More move by one `memmove` if the
-//! distance is one to four bytes, and otherwise in blocks of 64, from the end if they move up.
+//! distance is one to four bytes, by one for each part of the distance if that is 1024 and more, and otherwise in blocks
+//! of 64; from the end if they move up.
 ghost use Rattle.std.specs.Prelude.{◌≡◌, ◌+◌, ◌-◌, ◌≤◌, length, drop};
 ghost use lib.Seq.{paste};
 
@@ -26,6 +27,7 @@ pub fn move_bytes(slice: &mut [u8], from: usize, to: usize, count: usize)
             2 => move_up::<2>(slice, from, count),
             3 => move_up::<3>(slice, from, count),
             4 => move_up::<4>(slice, from, count),
+            FAR.. => move_parts_up(slice, from, to, count),
             _ => move_blocks_up(slice, from, to, count),
         }
     } else {
@@ -34,6 +36,7 @@ pub fn move_bytes(slice: &mut [u8], from: usize, to: usize, count: usize)
             2 => move_down::<2>(slice, to, count),
             3 => move_down::<3>(slice, to, count),
             4 => move_down::<4>(slice, to, count),
+            FAR.. => move_parts_down(slice, from, to, count),
             _ => move_blocks_down(slice, from, to, count),
         }
     }
@@ -112,6 +115,63 @@ fn move_blocks_down(slice: &mut [u8], from: usize, to: usize, count: usize)
         done += BLOCK;
     }
     move_up_to_128(slice, from + done, to + done, count - done);
+}
+
+/// The distance from which parts of that length move by one call each, since they do not overlap.
+const FAR: usize = 1024;
+
+/// Moves bytes up by a long distance, the last ones first.
+#[inline(never)]
+fn move_parts_up(slice: &mut [u8], from: usize, to: usize, count: usize)
+    requires far { from + 1024 ≤ to }
+    requires target { to + count ≤ length slice.old }
+    ensures { slice.new ≡ paste slice.old to (drop from slice.old) count }
+{
+    let part = to - from;
+    let mut left = count;
+    'moves: while part < left {
+        left -= part;
+        copy_up(slice, from + left, to + left, part);
+    }
+    copy_up(slice, from, to, left);
+}
+
+/// Moves bytes down by a long distance, the first ones first.
+#[inline(never)]
+fn move_parts_down(slice: &mut [u8], from: usize, to: usize, count: usize)
+    requires far { to + 1024 ≤ from }
+    requires source { from + count ≤ length slice.old }
+    ensures { slice.new ≡ paste slice.old to (drop from slice.old) count }
+{
+    let part = from - to;
+    let mut done = 0;
+    'moves: while part < count - done {
+        copy_down(slice, from + done, to + done, part);
+        done += part;
+    }
+    copy_down(slice, from + done, to + done, count - done);
+}
+
+/// Copies bytes to a place after them.
+#[inline(always)]
+fn copy_up(slice: &mut [u8], from: usize, to: usize, count: usize)
+    requires apart { from + count ≤ to }
+    requires target { to + count ≤ length slice.old }
+    ensures { slice.new ≡ paste slice.old to (drop from slice.old) count }
+{
+    let (low, high) = slice.split_at_mut(to);
+    high[..count].copy_from_slice(&low[from..from + count]);
+}
+
+/// Copies bytes to a place before them.
+#[inline(always)]
+fn copy_down(slice: &mut [u8], from: usize, to: usize, count: usize)
+    requires apart { to + count ≤ from }
+    requires source { from + count ≤ length slice.old }
+    ensures { slice.new ≡ paste slice.old to (drop from slice.old) count }
+{
+    let (low, high) = slice.split_at_mut(from);
+    low[to..to + count].copy_from_slice(&high[..count]);
 }
 
 /// Moves at most two blocks.
