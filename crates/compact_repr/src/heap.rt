@@ -262,6 +262,9 @@ impl HeapBuffer {
         ensures { MatchOption result ((self.old.text ≡ []) × (self.new ≡ self.old))
             (λ c. (self.old.text ≡ self.new.text ++ c ∷ []) × (self.new.capacity ≡ self.old.capacity)) }
     {
+        if let Some(byte) = vec::pop_ascii(&mut self.bytes) {
+            return Some(char::from(byte));
+        }
         let (index, character) = split_last(self.as_str())?;
         self.truncate(index);
         Some(character)

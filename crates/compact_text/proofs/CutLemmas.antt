@@ -1,15 +1,16 @@
 -- Boundaries of a text, and those of its bytes.
 use Rattle.std.proofs.Common.{◌≡◌, ℕ, ◌+◌, ◌-◌, ◌<◌, ◌≤◌, List, [], ◌∷◌, ◌++◌, take, drop, refl, ap, sym, ◌∙◌, subst}
-use Rattle.std.proofs.Common.{arith, true, ⊎_elim, append_assoc, Bool, false, IsTrue, ◌↔◌}
+use Rattle.std.proofs.Common.{arith, true, ⊎_elim, append_assoc, Bool, false, IsTrue, ◌↔◌, get_or, length, length-append, zero, suc}
 use Rattle.std.proofs.lemmas.List.{append-nil, length-take-le, take-append-drop}
 use Rattle.std.proofs.lemmas.Bool.{eq-eqb, ne_eqb, true≢false, cases_Bool, cond-true, cond-false, le-leb, lt-leb}
 use Rattle.std.proofs.lemmas.Bool.{and_parts}
 use Rattle.std.proofs.lemmas.Str.{IsUtf8-append, IsUtf8-nil, IsUtf8-take, IsUtf8-drop, chars-append, chars-nil}
 use Rattle.std.proofs.lemmas.Str.{scalars-chars, encodes-chars, encodes-append, encodes_same, chars_past_char}
-use Rattle.std.proofs.lemmas.Str.{len_utf8_bounds, IsCharBoundary-at_seam}
+use Rattle.std.proofs.lemmas.Str.{len_utf8_bounds, IsCharBoundary-at_seam, IsCharBoundary-before_ascii, chars-IsAscii}
+use Rattle.std.proofs.Math.Seq.{get_or-append_seam, take-append_seam}
 use Rattle.std.specs.Char.{len_utf8}
 use Rattle.std.specs.List.{replace_range}
-use Rattle.std.specs.Str.{IsUtf8, IsCharBoundary}
+use Rattle.std.specs.Str.{IsUtf8, IsCharBoundary, IsAscii}
 use lib.Dec.{leb}
 use lib.Utf8.{encode, encodes, scalar, scalars}
 use Rattle.compact_text.specs.Text.{size, text_of}
@@ -170,6 +171,25 @@ text_of-last bytes front c u v e =
     encodes-append (text_of front) (c ∷ []) ∙ ap (λ x. x ++ encodes (c ∷ [])) (encodes-chars front v)
     ∙ ap (λ x. front ++ x) (append-nil (encode c)) in
     encodes_same _ _ (encodes-chars bytes u ∙ e ∙ sym spelled)
+
+one_ascii : (c : ℕ) → c < 128 → IsAscii (c ∷ [])
+one_ascii c low zero = low
+one_ascii c low (suc i) = omega arith
+
+-- the last byte is an ASCII character
+pub text_of-last_ascii : (bytes front : List ℕ) (c : ℕ) → IsUtf8 bytes → bytes ≡ front ++ c ∷ [] → c < 128
+    → IsUtf8 front × (text_of bytes ≡ text_of front ++ c ∷ [])
+text_of-last_ascii bytes front c u e low =
+    let whole = subst IsUtf8 e u in
+    let last : get_or (front ++ c ∷ []) (length front) 0 ≡ c = get_or-append_seam front c [] 0 in
+    let cut = IsCharBoundary-before_ascii (front ++ c ∷ []) (length front)
+    (omega (arith, length-append front (c ∷ []))) (omega (arith, last, low)) in
+    let kept : IsUtf8 front = subst IsUtf8 (take-append_seam front (c ∷ []))
+    (IsUtf8-take (front ++ c ∷ []) (length front) whole cut) in (
+      kept,
+      ap text_of e ∙ chars-append front (c ∷ []) kept
+          ∙ ap (λ t. text_of front ++ t) (chars-IsAscii (c ∷ []) (one_ascii c low)),
+    )
 
 -- the first bytes after a boundary encode the next character
 pub text_of-next : (bytes rest : List ℕ) (p c : ℕ) → IsUtf8 bytes → IsBoundary (text_of bytes) p

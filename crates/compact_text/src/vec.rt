@@ -1,7 +1,7 @@
 //! Appends within a vector's reserved capacity.
 //!
 //! The loops move the vector out of its reference first.
-ghost use Rattle.std.specs.Prelude.{◌≡◌, ◌+◌, ◌-◌, ◌<◌, ◌≤◌, ◌++◌, length, take, drop, replicate, IsTrue, false};
+ghost use Rattle.std.specs.Prelude.{◌≡◌, ◌+◌, ◌-◌, ◌<◌, ◌≤◌, [], ◌∷◌, ◌++◌, length, take, drop, replicate, IsTrue, false, IfSome, None};
 ghost use Rattle.std.specs.Char.{len_utf8, encode_utf8};
 ghost use Rattle.std.specs.List.{replace_range};
 ghost use Rattle.std.specs.Vec.{vec_len, vec_capacity};
@@ -143,6 +143,21 @@ fn append_blocks(vec: &mut Vec<u8>, source: &[u8])
         }
         vec.truncate(len + (count - LONG_BLOCK));
         append_array::<LONG_BLOCK>(vec, array_at::<LONG_BLOCK>(source, count - LONG_BLOCK));
+    }
+}
+
+/// Removes and returns the last byte if it is ASCII; otherwise changes nothing. Compares no lengths, as `truncate` does, for
+/// which the next call would wait.
+#[inline(always)]
+pub fn pop_ascii(bytes: &mut Vec<u8>) -> Option<u8>
+    ensures ascii { IfSome result (λ byte. byte < 128) }
+    ensures popped { IfSome result (λ byte. bytes.old.items ≡ bytes.new.items ++ byte ∷ []) }
+    ensures capacity { vec_capacity bytes.new ≡ vec_capacity bytes.old }
+    ensures others { result ≡ None → bytes.new ≡ bytes.old }
+{
+    match bytes.as_slice().last() {
+        Some(byte) if byte.is_ascii() => Some(bytes.take_last()),
+        _ => None,
     }
 }
 
