@@ -221,13 +221,13 @@ fn char_start_before(bytes: &[u8], at: usize) -> usize
     if bytes[at] & 0xC0 == 0x80 { at - 1 } else { at }
 }
 
-/// `validate`, given that an error is likely to come soon. Validates windows only if the block after the first ASCII
-/// bytes looks valid.
+/// `validate`, given that an error is likely to come soon, or even at once. Validates windows only if the block after
+/// the first ASCII bytes looks valid.
 #[inline]
 fn validate_to_error(bytes: &[u8]) -> Result<&str, Utf8Error>
     ensures { Validates bytes.now result }
 {
-    if bytes.len() < BLOCK_LEN {
+    if bytes.len() < BLOCK_LEN || !may_begin_character(bytes[0]) {
         return validate_in_order(bytes);
     }
     let letters = ascii_len(bytes);
@@ -236,6 +236,12 @@ fn validate_to_error(bytes: &[u8]) -> Result<&str, Utf8Error>
         return validate_from(bytes, at);
     }
     validate_in_windows(bytes, at, BLOCK_LEN)
+}
+
+/// Returns `false` for a continuation byte, and for a byte that is in no text.
+#[inline]
+fn may_begin_character(byte: u8) -> bool {
+    byte < 0x80 || 0xC2 <= byte && byte <= 0xF4
 }
 
 /// Returns the length of the ASCII prefix of the first block.
