@@ -5,7 +5,7 @@ pub mod DrainLemmas
 pub mod RetainLemmas
 pub mod RepeatLemmas
 pub mod DecodingLemmas
-pub mod AsciiUnits
+pub mod UnitRuns
 pub mod CharacterWrites
 pub mod DecodedValues
 pub mod EditFacts

@@ -7,6 +7,7 @@ mod buf;
 pub mod error;
 pub mod utf16;
 mod utf16_block;
+mod utf16_run;
 pub mod utf8;
 
 use crate::error::ReserveError;

@@ -1,5 +1,5 @@
 //! A buffer on the stack in which units become UTF-8.
-ghost use Rattle.std.specs.Prelude.{if◌then◌else◌, ◌≡◌, ◌+◌, ◌*◌, ◌-◌, ◌<◌, ◌≤◌, ◌++◌, length, take, drop, map, nat_le, ◌%◌, slice_index, IsTrue};
+ghost use Rattle.std.specs.Prelude.{if◌then◌else◌, ◌≡◌, ◌+◌, ◌*◌, ◌-◌, ◌^◌, ◌<◌, ◌≤◌, ◌++◌, length, take, drop, map, nat_le, ◌%◌, slice_index, IsTrue};
 ghost use Rattle.std.specs.List.{position_or_len};
 ghost use Rattle.std.specs.Char.{encode_utf8};
 ghost use Rattle.std.specs.Int.{is_in_range};
@@ -7,19 +7,13 @@ ghost use Rattle.std.specs.Str.{IsUtf8, IsAscii};
 ghost use Rattle.compact_str.specs.Words.{text_of};
 ghost use Rattle.compact_codec.specs.Utf16Text.{utf16_lossy_text};
 
+use crate::decode::utf16_run::{
+    BLOCK, begins_with_ascii, begins_with_two_byte, write_ascii, write_two_byte,
+};
 use compact_codec::utf16::{self, Units};
-use std::simd::prelude::*;
 
 /// The capacity of the buffer.
 pub const BUFFER_LEN: usize = 256;
-
-/// The number of ASCII units that are written at a time.
-const BLOCK: usize = 16;
-
-/// The bits that the first four units of a block have only if these are not all ASCII.
-const FIRST_FOUR: [u16; BLOCK] = [
-    0xFF80, 0xFF80, 0xFF80, 0xFF80, 0, 0, 0, 0, 0, 0, 0, 0, 0, 0, 0, 0,
-];
 
 /// How much was read and written.
 #[derive(Clone, Copy)]
@@ -48,17 +42,16 @@ pub fn encode_into<U: Units>(buffer: &mut [u8; 256], units: U, from: usize) -> F
     let count = units.len();
     let mut at = from;
     let mut len = 0;
-    while count - at >= BLOCK && len <= BUFFER_LEN - BLOCK {
-        let block = units.block(at);
-        if begins_with_ascii(block) {
-            let letters = write_ascii(buffer, len, block);
-            at += letters;
-            len += letters;
-        } else {
-            let next = write_next(buffer, len, units, at);
-            at += next.taken;
-            len = next.len;
-        }
+    while count - at >= BLOCK && len <= BUFFER_LEN - 2 * BLOCK {
+        let next = write_block(buffer, len, units, at);
+        at += next.taken;
+        len = next.len;
+    }
+    if count - at >= BLOCK {
+        return Filled {
+            taken: at - from,
+            len,
+        };
     }
     while at < count && len <= BUFFER_LEN - 4 {
         let next = write_next(buffer, len, units, at);
@@ -71,48 +64,41 @@ pub fn encode_into<U: Units>(buffer: &mut [u8; 256], units: U, from: usize) -> F
     }
 }
 
-/// Returns `true` if the first four units are ASCII. Tests all four at once, since a single ASCII character is common
-/// in text of other scripts.
+/// Writes the run of characters of one width with which the block at `at` begins, after the first `len` bytes. Writes
+/// only the next two characters if there is no such run.
 #[inline(always)]
-fn begins_with_ascii(block: u16x16) -> bool
-    ensures { IsTrue result → slice_index block 0 < 128 }
+fn write_block<U: Units>(buffer: &mut [u8; 256], len: usize, units: U, at: usize) -> Filled
+    requires room { len + 32 ≤ 256 }
+    requires block { at + 16 ≤ length (U.units units) }
+    requires few { length (U.units units) < 2 ^ 62 }
+    requires utf8 { IsUtf8 (take len buffer.old) }
+    ensures taken { (0 < result.taken) × (at + result.taken ≤ length (U.units units)) }
+    ensures len { result.len ≤ len + 32 }
+    ensures utf8 { IsUtf8 (take result.len buffer.new) }
+    ensures text { text_of (take result.len buffer.new)
+        ++ utf16_lossy_text (drop (at + result.taken) (U.units units))
+        ≡ text_of (take len buffer.old) ++ utf16_lossy_text (drop at (U.units units)) }
 {
-    (block & u16x16::from_array(FIRST_FOUR)).reduce_or() == 0
-}
-
-/// Writes the ASCII units at the front of the block at `at`, and returns their number. Writes a whole block, to avoid a
-/// loop.
-#[inline(always)]
-fn write_ascii(buffer: &mut [u8; 256], at: usize, block: u16x16) -> usize
-    requires room { at + 16 ≤ 256 }
-    requires first { slice_index block 0 < 128 }
-    ensures some { (0 < result) × (result ≤ 16) }
-    ensures bytes { take (at + result) buffer.new ≡ take at buffer.old ++ take result block }
-    ensures ascii { IsAscii (take result block) }
-{
-    let front = &mut buffer[at..at + BLOCK];
-    low_bytes(block).copy_to_slice(front);
-    ascii_count(block)
-}
-
-/// Returns each unit modulo 128, as a byte.
-#[inline(always)]
-fn low_bytes(block: u16x16) -> u8x16
-    ensures { result ≡ map (λ u. u % 128) block }
-{
-    (block & u16x16::splat(0x7F)).cast()
-}
-
-/// Returns the number of ASCII units before the first other one.
-#[inline(always)]
-fn ascii_count(block: u16x16) -> usize
-    ensures { result ≡ position_or_len (λ u. nat_le 128 u) block }
-{
-    let others = block.simd_ge(u16x16::splat(0x80)).to_bitmask();
-    if others == 0 {
-        BLOCK
-    } else {
-        others.trailing_zeros() as usize
+    let block = units.block(at);
+    if begins_with_ascii(block) {
+        let letters = write_ascii(buffer, len, block);
+        return Filled {
+            taken: letters,
+            len: len + letters,
+        };
+    }
+    if begins_with_two_byte(block) {
+        let pairs = write_two_byte(buffer, len, block);
+        return Filled {
+            taken: pairs,
+            len: len + 2 * pairs,
+        };
+    }
+    let first = write_next(buffer, len, units, at);
+    let second = write_next(buffer, first.len, units, at + first.taken);
+    Filled {
+        taken: first.taken + second.taken,
+        len: second.len,
     }
 }
 
@@ -123,6 +109,7 @@ fn write_next<U: Units>(buffer: &mut [u8; 256], len: usize, units: U, at: usize)
     requires some { at < length (U.units units) }
     requires utf8 { IsUtf8 (take len buffer.old) }
     ensures taken { (0 < result.taken) × (at + result.taken ≤ length (U.units units)) }
+    ensures few { result.taken ≤ 2 }
     ensures len { result.len ≤ len + 4 }
     ensures utf8 { IsUtf8 (take result.len buffer.new) }
     ensures text { text_of (take result.len buffer.new)

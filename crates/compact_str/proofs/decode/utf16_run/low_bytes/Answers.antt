@@ -1,7 +1,7 @@
 use Rattle.std.proofs.Common.{ap, ◌∙◌, arith, map, bit_and, replicate, Fits, w8}
 use Rattle.std.proofs.lemmas.Nat.{and_le_r, and_mask}
 use Rattle.std.proofs.lemmas.Simd.{Each1-all, Each1-zip2, Each2-splat, zip2_splat, map-map}
-use Rattle.compact_str.proofs.decode.utf16_block.low_bytes.Goals as goal
+use Rattle.compact_str.proofs.decode.utf16_run.low_bytes.Goals as goal
 
 pub overflow_cast-result : goal.overflow_cast-result
 overflow_cast-result c =
