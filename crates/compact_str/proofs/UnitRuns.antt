@@ -17,11 +17,11 @@ use Rattle.std.proofs.lemmas.Simd.{zip2_of_maps, map-map}
 use Rattle.std.proofs.lemmas.Str.{chars-append, chars-encodes, IsUtf8-append}
 use Rattle.std.proofs.lemmas.List.Sums.{prefix_len-le-length}
 use Rattle.compact_repr.specs.Text.{text_of}
-use Rattle.compact_text.proofs.Encodings.{encode_one, encode_two}
+use Rattle.compact_text.proofs.Encodings.{encode_one, encode_two, encode_three}
 use Rattle.compact_codec.specs.Utf16Text.{utf16_lossy_text}
 use Rattle.compact_str.proofs.CharacterWrites.{own_step}
 use lib.Count.{count_trailing_zeros}
-use lib.Lanes.{fold_l, zip2, mask_l, top, put_chunk, Each1, number_l, digits_l}
+use lib.Lanes.{fold_l, zip2, mask_l, top, put_chunk, Each1, number_l, digits_l, pick_l}
 use lib.Utf8.{low_scalar, scalars, encodes}
 use borrow.Rule.Slice.PartMut.{mid_of, put_mid}
 
@@ -150,6 +150,52 @@ two_digits (x ∷ xs) (suc (suc k)) double =
     let second : ((two_word x + 65536 * number) / 256) % 256 ≡ 128 + x % 64 = omega (arith, word) in
     let rest : ((two_word x + 65536 * number) / 256) / 256 ≡ number = omega (arith, word) in
     λ i. first i ∷ second i ∷ (ap (digits_l 256 k) rest ∙ two_digits xs k (omega arith)) i
+
+abbrev three_word : ℕ → ℕ
+three_word u = (((8421600 + u / 4096) % 2 ^ 32 + (bit_and (u / 64) 63 * 256) % 2 ^ 32) % 2 ^ 32
+    + (bit_and u 63 * 65536) % 2 ^ 32) % 2 ^ 32
+
+abbrev three_then : ℕ → List ℕ → List ℕ
+three_then u l = (224 + u / 4096) ∷ (128 + (u / 64) % 64) ∷ (128 + u % 64) ∷ 0 ∷ l
+
+three_digits : (u k number : ℕ) → u < 2 ^ 16
+    → digits_l 256 (suc (suc (suc (suc k)))) (three_word u + 2 ^ 32 * number) ≡ three_then u (digits_l 256 k number)
+three_digits u k number fits =
+    let middle = and_mask (u / 64) 6 in
+    let low = and_mask u 6 in
+    let word : three_word u ≡ 224 + u / 4096 + 256 * (128 + (u / 64) % 64 + 256 * (128 + u % 64)) =
+    omega (arith, low, middle, fits) in
+    let whole = three_word u + 2 ^ 32 * number in
+    let first : whole % 256 ≡ 224 + u / 4096 = omega (arith, word, fits) in
+    let second : whole / 256 % 256 ≡ 128 + (u / 64) % 64 = omega (arith, word, fits) in
+    let third : whole / 256 / 256 % 256 ≡ 128 + u % 64 = omega (arith, word, fits) in
+    let none : whole / 256 / 256 / 256 % 256 ≡ 0 = omega (arith, word, fits) in
+    let rest : whole / 256 / 256 / 256 / 256 ≡ number = omega (arith, word, fits) in
+    λ i. first i ∷ second i ∷ third i ∷ none i ∷ digits_l 256 k (rest i)
+
+abbrev pub without_fourths : List ℕ → List ℕ
+without_fourths l = pick_l 0 (l ++ l) (0 ∷ 1 ∷ 2 ∷ 4 ∷ 5 ∷ 6 ∷ 8 ∷ 9 ∷ 10 ∷ 12 ∷ 13 ∷ 14 ∷ 3 ∷ 7 ∷ 11 ∷ 15 ∷ [])
+
+abbrev pub three : ℕ → List ℕ
+three u = (224 + u / 4096) ∷ (128 + (u / 64) % 64) ∷ (128 + u % 64) ∷ []
+
+pub three_of : (xs : List ℕ) → length xs ≡ 4 → Each1 (Fits w16) xs
+    → take 12 (without_fourths (digits_l 256 16 (number_l (2 ^ 32) (map three_word xs)))) ≡ flat_map three xs
+three_of [] long fits = absurd (omega arith)
+three_of (a ∷ []) long fits = absurd (omega arith)
+three_of (a ∷ b ∷ []) long fits = absurd (omega arith)
+three_of (a ∷ b ∷ c ∷ []) long fits = absurd (omega arith)
+three_of (a ∷ b ∷ c ∷ d ∷ []) long fits =
+    ap (λ l. take 12 (without_fourths l)) (three_digits a 12 _ fits.0.fits
+    ∙ ap (three_then a) (three_digits b 8 _ fits.1.0.fits
+    ∙ ap (three_then b) (three_digits c 4 _ fits.1.1.0.fits ∙ ap (three_then c) (three_digits d 0 0 fits.1.1.1.0.fits))))
+three_of (a ∷ b ∷ c ∷ d ∷ e ∷ xs) long fits = absurd (omega arith)
+
+pub three_front : (xs : List ℕ) → Each1 (λ u. (2048 ≤ u) × IsScalar u × (u < 2 ^ 16)) xs
+    → flat_map three xs ≡ encodes xs
+three_front [] all = refl
+three_front (x ∷ xs) all =
+    λ i. sym (encode_three x all.0.0 all.0.2) i ++ three_front xs all.1 i
 
 -- the text of units that begin with characters
 own_text : (xs rest : List ℕ) → Each1 IsOwn xs → utf16_lossy_text (xs ++ rest) ≡ xs ++ utf16_lossy_text rest

@@ -8,7 +8,8 @@ ghost use Rattle.compact_str.specs.Words.{text_of};
 ghost use Rattle.compact_codec.specs.Utf16Text.{utf16_lossy_text};
 
 use crate::decode::utf16_run::{
-    BLOCK, begins_with_ascii, begins_with_two_byte, write_ascii, write_two_byte,
+    BLOCK, begins_with_ascii, begins_with_three_byte, begins_with_two_byte, write_ascii,
+    write_three_byte, write_two_byte,
 };
 use compact_codec::utf16::{self, Units};
 
@@ -47,16 +48,12 @@ pub fn encode_into<U: Units>(buffer: &mut [u8; 256], units: U, from: usize) -> F
         at += next.taken;
         len = next.len;
     }
-    if count - at >= BLOCK {
-        return Filled {
-            taken: at - from,
-            len,
-        };
-    }
-    while at < count && len <= BUFFER_LEN - 4 {
-        let next = write_next(buffer, len, units, at);
-        at += next.taken;
-        len = next.len;
+    if count - at < BLOCK && len <= BUFFER_LEN - 4 * BLOCK {
+        while at < count {
+            let next = write_next(buffer, len, units, at);
+            at += next.taken;
+            len = next.len;
+        }
     }
     Filled {
         taken: at - from,
@@ -92,6 +89,13 @@ fn write_block<U: Units>(buffer: &mut [u8; 256], len: usize, units: U, at: usize
         return Filled {
             taken: pairs,
             len: len + 2 * pairs,
+        };
+    }
+    if begins_with_three_byte(block) {
+        write_three_byte(buffer, len, block);
+        return Filled {
+            taken: 4,
+            len: len + 12,
         };
     }
     let first = write_next(buffer, len, units, at);

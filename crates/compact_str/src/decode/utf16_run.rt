@@ -108,3 +108,37 @@ fn two_bytes(block: u16x16) -> u8x32
     let second = (block & u16x16::splat(63)) << u16x16::splat(8);
     (u16x16::splat(0x80C0) + first + second).to_le_bytes()
 }
+
+/// Returns `true` if the first four units are characters of three bytes.
+#[inline(always)]
+pub fn begins_with_three_byte(block: u16x16) -> bool
+    ensures { IsTrue result → Each1 (λ u. (2048 ≤ u) × IsScalar u × (u < 2 ^ 16)) (take 4 block) }
+{
+    let high = block.extract::<0, 4>() >> u16x4::splat(11);
+    let others = high.simd_eq(u16x4::splat(0)) | high.simd_eq(u16x4::splat(27));
+    others.to_bitmask() == 0
+}
+
+/// Writes the first four units of the block at `at`, as characters of three bytes.
+#[inline(always)]
+pub fn write_three_byte(buffer: &mut [u8; 256], at: usize, block: u16x16)
+    requires room { at + 16 ≤ 256 }
+    requires first { Each1 (λ u. (2048 ≤ u) × IsScalar u × (u < 2 ^ 16)) (take 4 block) }
+    ensures { take (at + 12) buffer.new ≡ take at buffer.old ++ encode_utf8_all (take 4 block) }
+{
+    let front = &mut buffer[at..at + 16];
+    three_bytes(block.extract::<0, 4>()).copy_to_slice(front);
+}
+
+/// Returns each unit as three bytes, and then four zeros.
+#[inline(always)]
+fn three_bytes(units: u16x4) -> u8x16
+    ensures { take 12 result
+        ≡ flat_map (λ u. (224 + u / 4096) ∷ (128 + u / 64 % 64) ∷ (128 + u % 64) ∷ []) units }
+{
+    let wide: u32x4 = units.cast();
+    let second = ((wide >> u32x4::splat(6)) & u32x4::splat(63)) << u32x4::splat(8);
+    let third = (wide & u32x4::splat(63)) << u32x4::splat(16);
+    let words = u32x4::splat(0x0080_80E0) + (wide >> u32x4::splat(12)) + second + third;
+    words.to_le_bytes().swizzle([0, 1, 2, 4, 5, 6, 8, 9, 10, 12, 13, 14, 3, 7, 11, 15])
+}
