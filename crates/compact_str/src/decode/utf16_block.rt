@@ -98,11 +98,12 @@ fn write_block<U: Units>(buffer: &mut [u8; 256], len: usize, units: U, at: usize
             len: len + 12,
         };
     }
-    let first = write_next(buffer, len, units, at);
-    let second = write_next(buffer, first.len, units, at + first.taken);
+    let one = write_next(buffer, len, units, at);
+    let two = write_next(buffer, one.len, units, at + one.taken);
+    let three = write_next(buffer, two.len, units, at + one.taken + two.taken);
     Filled {
-        taken: first.taken + second.taken,
-        len: second.len,
+        taken: one.taken + two.taken + three.taken,
+        len: three.len,
     }
 }
 

@@ -4,7 +4,7 @@ ghost use Rattle.std.specs.List.{position_or_len, flat_map};
 ghost use Rattle.std.specs.Char.{IsScalar};
 ghost use Rattle.std.specs.Int.Count.{count_trailing_zeros};
 ghost use Rattle.std.specs.Str.{encode_utf8_all};
-ghost use Rattle.std.specs.Simd.Lanes.{Each1, mask_l};
+ghost use Rattle.std.specs.Simd.Lanes.{Each1};
 
 use std::simd::prelude::*;
 
@@ -56,24 +56,14 @@ fn ascii_count(block: u16x16) -> usize
     first_set(block.simd_ge(u16x16::splat(0x80)).to_bitmask())
 }
 
-/// Returns the index of the lowest bit that is set, or 16 if there is none.
-#[inline(always)]
-fn first_set(mask: u64) -> usize
-    ensures { result ≡ (if mask == 0 then 16 else count_trailing_zeros 64 mask) }
-{
-    if mask == 0 {
-        BLOCK
-    } else {
-        mask.trailing_zeros() as usize
-    }
-}
-
 /// Returns `true` if the first four units are characters of two bytes.
 #[inline(always)]
 pub fn begins_with_two_byte(block: u16x16) -> bool
     ensures { IsTrue result → (128 ≤ slice_index block 0) × (slice_index block 0 < 2048) }
 {
-    not_two_byte(block) % 16 == 0
+    let first = block.extract::<0, 4>();
+    let others = first.simd_lt(u16x4::splat(0x80)) | first.simd_ge(u16x4::splat(0x800));
+    others.to_bitmask() == 0
 }
 
 /// Writes the characters of two bytes at the front of the block at `at`, and returns their number. Writes a whole
@@ -88,15 +78,7 @@ pub fn write_two_byte(buffer: &mut [u8; 256], at: usize, block: u16x16) -> usize
 {
     let front = &mut buffer[at..at + 2 * BLOCK];
     two_bytes(block).copy_to_slice(front);
-    first_set(not_two_byte(block))
-}
-
-/// Returns a bit for each unit that is no character of two bytes.
-#[inline(always)]
-fn not_two_byte(block: u16x16) -> u64
-    ensures { result ≡ mask_l (map (λ u. nat_lt u 128 || nat_le 2048 u) block) }
-{
-    (block.simd_lt(u16x16::splat(0x80)) | block.simd_ge(u16x16::splat(0x800))).to_bitmask()
+    two_byte_count(block)
 }
 
 /// Returns each unit modulo 2048, as two bytes.
@@ -107,6 +89,15 @@ fn two_bytes(block: u16x16) -> u8x32
     let first = (block >> u16x16::splat(6)) & u16x16::splat(31);
     let second = (block & u16x16::splat(63)) << u16x16::splat(8);
     (u16x16::splat(0x80C0) + first + second).to_le_bytes()
+}
+
+/// Returns the number of characters of two bytes before the first other unit.
+#[inline(always)]
+fn two_byte_count(block: u16x16) -> usize
+    ensures { result ≡ position_or_len (λ u. nat_lt u 128 || nat_le 2048 u) block }
+{
+    let others = block.simd_lt(u16x16::splat(0x80)) | block.simd_ge(u16x16::splat(0x800));
+    first_set(others.to_bitmask())
 }
 
 /// Returns `true` if the first four units are characters of three bytes.
@@ -140,5 +131,19 @@ fn three_bytes(units: u16x4) -> u8x16
     let second = ((wide >> u32x4::splat(6)) & u32x4::splat(63)) << u32x4::splat(8);
     let third = (wide & u32x4::splat(63)) << u32x4::splat(16);
     let words = u32x4::splat(0x0080_80E0) + (wide >> u32x4::splat(12)) + second + third;
-    words.to_le_bytes().swizzle([0, 1, 2, 4, 5, 6, 8, 9, 10, 12, 13, 14, 3, 7, 11, 15])
+    words
+        .to_le_bytes()
+        .swizzle([0, 1, 2, 4, 5, 6, 8, 9, 10, 12, 13, 14, 3, 7, 11, 15])
+}
+
+/// Returns the index of the lowest bit that is set, or 16 if there is none.
+#[inline(always)]
+fn first_set(mask: u64) -> usize
+    ensures { result ≡ (if mask == 0 then 16 else count_trailing_zeros 64 mask) }
+{
+    if mask == 0 {
+        BLOCK
+    } else {
+        mask.trailing_zeros() as usize
+    }
 }

@@ -1,4 +1,4 @@
-use Rattle.std.proofs.Common.{◌+◌, ◌*◌, ◌/◌, ◌%◌, ◌^◌, ◌∙◌, ap, arith, bit_and, take, refl}
+use Rattle.std.proofs.Common.{◌+◌, ◌*◌, ◌/◌, ◌%◌, ◌^◌, ◌∙◌, ap, bit_and, take, refl}
 use Rattle.std.proofs.lemmas.Simd.{zip2_of_maps, splat_is_map}
 use lib.Lanes.{number_l, digits_l}
 use Rattle.compact_str.proofs.UnitRuns.{three_of, without_fourths}

@@ -17,10 +17,7 @@ pub returns-clause-bytes : goal.returns-clause-bytes
 returns-clause-bytes c =
     let block = c.args.block in
     let n = c.ascii_count.result in
-    let low = c.low_bytes.result in
-    let few = (count_some (leb 128) block n c.fits-block.0 (lt-leb 128 _ c.requires.first) c.ascii_count.ensures).1 in
-    block_after c.args.buffer.now low c.args.at (c.args.at + 16 - c.args.at) n (omega arith)
-    (omega (arith, c.told-buffer, c.requires.room)) (omega (arith, few))
-    ∙ ap (λ l. take c.args.at c.args.buffer.now ++ l)
-    (ap (take n) c.low_bytes.ensures
-    ∙ ascii_front n block (front_has (leb 128) (λ u. u < 128) (leb-false 128) block n c.ascii_count.ensures))
+    let ascii = front_has (leb 128) (λ u. u < 128) (leb-false 128) block n c.ascii_count.ensures in
+    block_after c.args.buffer.now c.low_bytes.result c.args.at (c.args.at + 16 - c.args.at) n (omega arith)
+    (omega (arith, c.told-buffer, c.requires.room)) (omega (arith, (returns-clause-some c).1))
+    ∙ ap (λ l. take c.args.at c.args.buffer.now ++ l) (ap (take n) c.low_bytes.ensures ∙ ascii_front n block ascii)
