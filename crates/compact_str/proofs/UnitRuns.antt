@@ -206,21 +206,23 @@ own_scalars : (xs : List ℕ) → Each1 IsOwn xs → scalars xs ≡ true
 own_scalars [] all = refl
 own_scalars (x ∷ xs) all = and_from _ _ all.0.0 (own_scalars xs all.1)
 
-pub run_after : (units block bytes next : List ℕ) (at n : ℕ) → block ≡ take 16 (drop at units) → n ≤ 16
-    → next ≡ bytes ++ encodes (take n block) → IsUtf8 bytes → Each1 IsOwn (take n block)
-    → (text_of next ++ utf16_lossy_text (drop (at + n) units) ≡ text_of bytes ++ utf16_lossy_text (drop at units))
-    × IsUtf8 next
-run_after units block bytes next at n read few is utf8 own =
+pub run_utf8 : (block bytes next : List ℕ) (n : ℕ) → next ≡ bytes ++ encodes (take n block) → IsUtf8 bytes
+    → Each1 IsOwn (take n block) → IsUtf8 next
+run_utf8 block bytes next n is utf8 own =
     let front = take n block in
-    let left = utf16_lossy_text (drop (at + n) units) in
-    let text = own_scalars front own in
+    subst IsUtf8 (sym is) (IsUtf8-append bytes (encodes front) utf8 (front, (own_scalars front own, refl)))
+
+pub run_text : (units block bytes next : List ℕ) (at n : ℕ) → block ≡ take 16 (drop at units) → n ≤ 16
+    → next ≡ bytes ++ encodes (take n block) → IsUtf8 bytes → Each1 IsOwn (take n block)
+    → text_of next ++ utf16_lossy_text (drop (at + n) units) ≡ text_of bytes ++ utf16_lossy_text (drop at units)
+run_text units block bytes next at n read few is utf8 own =
+    let front = take n block in
+    let left = drop (at + n) units in
     let spelled : text_of next ≡ text_of bytes ++ front =
-    ap text_of is ∙ chars-append bytes (encodes front) utf8 ∙ ap (λ t. text_of bytes ++ t) (chars-encodes front text) in
-    let parts : front ++ drop (at + n) units ≡ drop at units =
+    ap text_of is ∙ chars-append bytes (encodes front) utf8
+    ∙ ap (λ t. text_of bytes ++ t) (chars-encodes front (own_scalars front own)) in
+    let parts : front ++ left ≡ drop at units =
     (λ i. (ap (take n) read ∙ take-take n 16 (drop at units) few) i ++ sym (drop-drop n at units) i)
-    ∙ take-append-drop n (drop at units) in (
-      ap (λ t. t ++ left) spelled ∙ append_assoc (text_of bytes) front left
-          ∙ ap (λ t. text_of bytes ++ t)
-          (sym (own_text front (drop (at + n) units) own) ∙ ap utf16_lossy_text parts),
-      subst IsUtf8 (sym is) (IsUtf8-append bytes (encodes front) utf8 (front, (text, refl))),
-    )
+    ∙ take-append-drop n (drop at units) in
+    ap (λ t. t ++ utf16_lossy_text left) spelled ∙ append_assoc (text_of bytes) front (utf16_lossy_text left)
+    ∙ ap (λ t. text_of bytes ++ t) (sym (own_text front left own) ∙ ap utf16_lossy_text parts)

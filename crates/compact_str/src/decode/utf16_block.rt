@@ -64,6 +64,7 @@ pub fn encode_into<U: Units>(buffer: &mut [u8; 256], units: U, from: usize) -> F
 /// Writes the run of characters of one width with which the block at `at` begins, after the first `len` bytes. Writes
 /// only the next two characters if there is no such run.
 #[inline(always)]
+#[tactic(auto, using(crate::proofs::UnitRuns::run_text))]
 fn write_block<U: Units>(buffer: &mut [u8; 256], len: usize, units: U, at: usize) -> Filled
     requires room { len + 32 ≤ 256 }
     requires block { at + 16 ≤ length (U.units units) }

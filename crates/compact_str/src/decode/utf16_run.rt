@@ -115,7 +115,8 @@ pub fn begins_with_three_byte(block: u16x16) -> bool
 pub fn write_three_byte(buffer: &mut [u8; 256], at: usize, block: u16x16)
     requires room { at + 16 ≤ 256 }
     requires first { Each1 (λ u. (2048 ≤ u) × IsScalar u × (u < 2 ^ 16)) (take 4 block) }
-    ensures { take (at + 12) buffer.new ≡ take at buffer.old ++ encode_utf8_all (take 4 block) }
+    ensures own { Each1 (λ u. IsScalar u × (u < 2 ^ 16)) (take 4 block) }
+    ensures bytes { take (at + 12) buffer.new ≡ take at buffer.old ++ encode_utf8_all (take 4 block) }
 {
     let front = &mut buffer[at..at + 16];
     three_bytes(block.extract::<0, 4>()).copy_to_slice(front);

@@ -4,8 +4,8 @@ use Rattle.std.specs.List.{flat_map, range_with_len}
 use Rattle.compact_str.proofs.UnitRuns.{block_after, three, three_front}
 use Rattle.compact_str.proofs.decode.utf16_run.write_three_byte.Goals as goal
 
-pub returns : goal.returns
-returns c =
+pub returns-clause-bytes : goal.returns-clause-bytes
+returns-clause-bytes c =
     let block = c.args.block in
     block_after c.args.buffer.now c.three_bytes.result c.args.at (c.args.at + 16 - c.args.at) 12
     (omega arith) (omega (arith, c.told-buffer, c.requires.room)) (omega arith)
