@@ -193,6 +193,60 @@ fn units_of_a_text_are_decoded(rt: HostRuntime) {
     assert_ascii(&rt, CompactString::from_utf16(alloc, &[0x61; 30]));
 }
 
+/// The first and the last units of each width in UTF-8, and unpaired surrogates, with the characters that they become.
+const RUNS: [(u16, char); 10] = [
+    (0, '\0'),
+    (0x7F, '\u{7F}'),
+    (0x80, '\u{80}'),
+    (0x7FF, '\u{7FF}'),
+    (0x800, '\u{800}'),
+    (0xD7FF, '\u{D7FF}'),
+    (0xD834, '\u{FFFD}'),
+    (0xE000, '\u{E000}'),
+    (0xDC00, '\u{FFFD}'),
+    (0xFFFF, '\u{FFFF}'),
+];
+
+/// Asserts that each lossy decoder reads runs of `len` units, with U+1D11E before each.
+fn assert_runs(rt: &impl Abort, alloc: Global, len: usize) {
+    let mut text = String::new(alloc);
+    let mut units = Vec::new(alloc);
+    for (unit, character) in RUNS {
+        text.push('𝄞').expect(rt, "memory");
+        units
+            .extend_from_slice(&[0xD834, 0xDD1E])
+            .expect(rt, "memory");
+        for _ in 0..len {
+            text.push(character).expect(rt, "memory");
+            units.push(unit).expect(rt, "memory");
+        }
+    }
+    let mut little = Vec::new(alloc);
+    let mut big = Vec::new(alloc);
+    for unit in &units {
+        little
+            .extend_from_slice(&unit.to_le_bytes())
+            .expect(rt, "memory");
+        big.extend_from_slice(&unit.to_be_bytes())
+            .expect(rt, "memory");
+    }
+    for made in [
+        CompactString::from_utf16_lossy(alloc, units.as_slice()),
+        CompactString::from_utf16le_lossy(alloc, little.as_slice()),
+        CompactString::from_utf16be_lossy(alloc, big.as_slice()),
+    ] {
+        let made = made.expect(rt, "memory");
+        assert_that!(rt, made.as_str() == text.as_str());
+    }
+}
+
+#[test]
+fn runs_of_units_are_decoded(rt: HostRuntime) {
+    for len in 0..40 {
+        assert_runs(&rt, rt.alloc(), len);
+    }
+}
+
 /// Asserts that units are invalid.
 fn assert_invalid_units(rt: &impl Abort, made: Result<CompactString, FromUtf16Error>) {
     assert_that!(rt, matches!(made, Err(FromUtf16Error::Utf16(_))));
