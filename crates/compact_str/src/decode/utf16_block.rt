@@ -1,9 +1,8 @@
 //! A buffer on the stack in which units become UTF-8.
-ghost use Rattle.std.specs.Prelude.{if◌then◌else◌, ◌≡◌, ◌+◌, ◌*◌, ◌-◌, ◌^◌, ◌<◌, ◌≤◌, ◌++◌, length, take, drop, map, nat_le, ◌%◌, slice_index, IsTrue};
-ghost use Rattle.std.specs.List.{position_or_len};
+ghost use Rattle.std.specs.Prelude.{if◌then◌else◌, ◌≡◌, ◌+◌, ◌*◌, ◌-◌, ◌^◌, ◌<◌, ◌≤◌, ◌++◌, length, take, drop};
 ghost use Rattle.std.specs.Char.{encode_utf8};
 ghost use Rattle.std.specs.Int.{is_in_range};
-ghost use Rattle.std.specs.Str.{IsUtf8, IsAscii};
+ghost use Rattle.std.specs.Str.{IsUtf8};
 ghost use Rattle.compact_str.specs.Words.{text_of};
 ghost use Rattle.compact_codec.specs.Utf16Text.{utf16_lossy_text};
 
@@ -62,7 +61,7 @@ pub fn encode_into<U: Units>(buffer: &mut [u8; 256], units: U, from: usize) -> F
 }
 
 /// Writes the run of characters of one width with which the block at `at` begins, after the first `len` bytes. Writes
-/// only the next two characters if there is no such run.
+/// the next three characters if there is no such run.
 #[inline(always)]
 #[tactic(auto, using(crate::proofs::UnitRuns::run_text))]
 fn write_block<U: Units>(buffer: &mut [u8; 256], len: usize, units: U, at: usize) -> Filled
