@@ -25,6 +25,7 @@ pub mod one_error;
 pub mod out;
 pub mod packed;
 pub mod part;
+pub mod parts;
 pub mod plain;
 pub mod push;
 pub mod range;

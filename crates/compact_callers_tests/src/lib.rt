@@ -43,6 +43,8 @@ mod packed;
 #[cfg(test)]
 mod part;
 #[cfg(test)]
+mod parts;
+#[cfg(test)]
 mod plain;
 #[cfg(test)]
 mod push;

@@ -14,6 +14,7 @@ pub mod Room
 pub mod Conversions
 pub mod Edits
 pub mod Ranges
+pub mod Parts
 pub mod RetainRules
 pub mod Drain
 pub mod Laws
