@@ -1,5 +1,4 @@
-use Rattle.std.proofs.Common.{◌≡◌, ◌++◌, flat_map, append_assoc, append-nil}
-use Rattle.std.proofs.lemmas.Grind.{flat_map-append}
+use Rattle.std.proofs.Common.{◌≡◌, ◌++◌, flat_map}
 use Rattle.compact_str.specs.Text.{text_of}
 use Rattle.compact_callers.proofs.WholeRuns.{ran_to_end}
 use Rattle.compact_callers.proofs.iterator.Lines.join_lines.Goals as goal
