@@ -105,18 +105,30 @@ pub fn try_write_char(slice: &mut [u8], at: usize, character: char) -> Option<us
         return None;
     }
     let (bytes, len) = encoded(character);
-    set_four(&mut slice[at..at + 4], bytes);
+    set_array::<4>(&mut slice[at..at + 4], bytes);
     Some(at + len)
 }
 
-/// Replaces four bytes.
+/// Returns the `N` bytes of `source` at `at`.
 #[inline(always)]
-fn set_four(slice: &mut [u8], bytes: [u8; 4])
-    requires { length slice.old ≡ 4 }
-    ensures { slice.new ≡ bytes }
+pub fn array_at<const N: usize>(source: &[u8], at: usize) -> [u8; N]
+    requires { at + N ≤ length source.now }
+    ensures { result ≡ take N (drop at source.now) }
 {
-    match slice.first_chunk_mut::<4>() {
-        Some(chunk) => *chunk = bytes,
+    match source[at..].first_chunk::<N>() {
+        Some(chunk) => *chunk,
+        None => unreachable!(),
+    }
+}
+
+/// Replaces the `N` bytes of a slice.
+#[inline(always)]
+fn set_array<const N: usize>(slice: &mut [u8], array: [u8; N])
+    requires { length slice.old ≡ N }
+    ensures { slice.new ≡ array.entry }
+{
+    match slice.first_chunk_mut::<N>() {
+        Some(chunk) => *chunk = array,
         None => unreachable!(),
     }
 }

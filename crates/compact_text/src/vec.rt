@@ -6,15 +6,18 @@ ghost use Rattle.std.specs.Char.{len_utf8, encode_utf8};
 ghost use Rattle.std.specs.List.{replace_range};
 ghost use Rattle.std.specs.Vec.{vec_len, vec_capacity};
 
-use crate::slices;
+use crate::slices::{self, array_at};
 use crate::str_parts::encoded;
 use std::mem;
 
 /// The block size.
 const BLOCK: usize = 32;
 
-/// The block size for long input.
+/// The block size above 256 bytes.
 const LONG_BLOCK: usize = 128;
+
+/// The block size for long input. Such a block is copied by one call.
+const WHOLE_BLOCK: usize = 1024;
 
 /// Appends `source`. A short one is appended inline, without a loop or a call.
 #[inline(always)]
@@ -118,8 +121,7 @@ fn append_long(bytes: &mut Vec<u8>, source: &[u8])
     restore_vec(bytes, vec);
 }
 
-/// Appends more than 32 bytes: up to 256 as both ends, with the middle if they leave one; more in long blocks, of which
-/// the last overlaps the one before.
+/// Appends more than 32 bytes: up to 256 as both ends, with the middle if they leave one; more in long blocks.
 #[inline(always)]
 fn append_blocks(vec: &mut Vec<u8>, source: &[u8])
     requires long { 32 < length source.now }
@@ -136,18 +138,35 @@ fn append_blocks(vec: &mut Vec<u8>, source: &[u8])
         append_up_to_192(vec, source);
     } else if count <= 256 {
         append_overlapping::<128>(vec, source);
+    } else if count <= 2 * WHOLE_BLOCK {
+        append_in_blocks::<LONG_BLOCK>(vec, source);
     } else {
-        let len = vec.len();
-        for i in 0..(count - 1) / LONG_BLOCK {
-            append_array::<LONG_BLOCK>(vec, array_at::<LONG_BLOCK>(source, LONG_BLOCK * i));
-        }
-        vec.truncate(len + (count - LONG_BLOCK));
-        append_array::<LONG_BLOCK>(vec, array_at::<LONG_BLOCK>(source, count - LONG_BLOCK));
+        append_in_blocks::<WHOLE_BLOCK>(vec, source);
     }
 }
 
-/// Removes and returns the last byte if it is ASCII; otherwise changes nothing. Compares no lengths, as `truncate` does, for
-/// which the next call would wait.
+/// Appends `source`, which has at least `N` bytes, in blocks of `N`, of which the last overlaps the one before.
+#[inline(always)]
+fn append_in_blocks<const N: usize>(vec: &mut Vec<u8>, source: &[u8])
+    requires some { 0 < N }
+    requires least { N ≤ length source.now }
+    requires room { vec_len vec.old + length source.now ≤ vec_capacity vec.old }
+    ensures items { vec.new.items ≡ vec.old.items ++ source.now }
+    ensures capacity { vec_capacity vec.new ≡ vec_capacity vec.old }
+{
+    let len = vec.len();
+    let last = source.len() - N;
+    let mut done = 0;
+    'copies: while done < last {
+        append_array::<N>(vec, array_at::<N>(source, done));
+        done += N;
+    }
+    vec.truncate(len + last);
+    append_array::<N>(vec, array_at::<N>(source, last));
+}
+
+/// Removes and returns the last byte if it is ASCII; otherwise changes nothing. Unlike `truncate`, compares no
+/// lengths, for which the next call would wait.
 #[inline(always)]
 pub fn pop_ascii(bytes: &mut Vec<u8>) -> Option<u8>
     ensures ascii { IfSome result (λ byte. byte < 128) }
@@ -313,18 +332,6 @@ fn append_array<const N: usize>(vec: &mut Vec<u8>, piece: [u8; N])
 {
     for i in 0..N {
         vec.push_reserved(piece[i]);
-    }
-}
-
-/// Returns the `N` bytes of `source` at `at`.
-#[inline(always)]
-fn array_at<const N: usize>(source: &[u8], at: usize) -> [u8; N]
-    requires { at + N ≤ length source.now }
-    ensures { result ≡ take N (drop at source.now) }
-{
-    match source[at..].first_chunk::<N>() {
-        Some(chunk) => *chunk,
-        None => unreachable!(),
     }
 }
 

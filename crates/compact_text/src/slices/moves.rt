@@ -1,12 +1,13 @@
 //! Overlapping moves within a byte slice.
 //!
 //! Up to 128 bytes move by both ends, which are read before either is written. More move by one `memmove` if the
-//! distance is one to four bytes, by one for each part of the distance if that is 1024 and more, and otherwise in blocks
-//! of 64; from the end if they move up.
+//! distance is one to four bytes, and otherwise in blocks, from the end if they move up: by a `memmove` for each 2048
+//! bytes, and then 64 bytes at a time.
 ghost use Rattle.std.specs.Prelude.{◌≡◌, ◌+◌, ◌-◌, ◌≤◌, length, drop};
 ghost use lib.Seq.{paste};
 
 use super::simd::{load, store};
+use super::{array_at, set_array};
 
 /// Moves `count` bytes from `from` to `to`, which may overlap.
 #[inline(always)]
@@ -27,7 +28,6 @@ pub fn move_bytes(slice: &mut [u8], from: usize, to: usize, count: usize)
             2 => move_up::<2>(slice, from, count),
             3 => move_up::<3>(slice, from, count),
             4 => move_up::<4>(slice, from, count),
-            FAR.. => move_parts_up(slice, from, to, count),
             _ => move_blocks_up(slice, from, to, count),
         }
     } else {
@@ -36,7 +36,6 @@ pub fn move_bytes(slice: &mut [u8], from: usize, to: usize, count: usize)
             2 => move_down::<2>(slice, to, count),
             3 => move_down::<3>(slice, to, count),
             4 => move_down::<4>(slice, to, count),
-            FAR.. => move_parts_down(slice, from, to, count),
             _ => move_blocks_down(slice, from, to, count),
         }
     }
@@ -87,6 +86,9 @@ fn move_whole_down<const DISTANCE: usize>(part: &mut [u8])
 /// The block size.
 const BLOCK: usize = 64;
 
+/// The block size of a long move.
+const LONG_BLOCK: usize = 2048;
+
 /// Moves bytes up, the last ones first.
 #[inline(never)]
 fn move_blocks_up(slice: &mut [u8], from: usize, to: usize, count: usize)
@@ -95,6 +97,10 @@ fn move_blocks_up(slice: &mut [u8], from: usize, to: usize, count: usize)
     ensures { slice.new ≡ paste slice.old to (drop from slice.old) count }
 {
     let mut left = count;
+    'long_moves: while LONG_BLOCK < left {
+        left -= LONG_BLOCK;
+        move_array::<LONG_BLOCK>(slice, from + left, to + left);
+    }
     'moves: while BLOCK < left {
         left -= BLOCK;
         move_overlapping::<BLOCK>(slice, from + left, to + left, BLOCK);
@@ -110,6 +116,10 @@ fn move_blocks_down(slice: &mut [u8], from: usize, to: usize, count: usize)
     ensures { slice.new ≡ paste slice.old to (drop from slice.old) count }
 {
     let mut done = 0;
+    'long_moves: while LONG_BLOCK < count - done {
+        move_array::<LONG_BLOCK>(slice, from + done, to + done);
+        done += LONG_BLOCK;
+    }
     'moves: while BLOCK < count - done {
         move_overlapping::<BLOCK>(slice, from + done, to + done, BLOCK);
         done += BLOCK;
@@ -117,61 +127,15 @@ fn move_blocks_down(slice: &mut [u8], from: usize, to: usize, count: usize)
     move_up_to_128(slice, from + done, to + done, count - done);
 }
 
-/// The distance from which parts of that length move by one call each, since they do not overlap.
-const FAR: usize = 1024;
-
-/// Moves bytes up by a long distance, the last ones first.
-#[inline(never)]
-fn move_parts_up(slice: &mut [u8], from: usize, to: usize, count: usize)
-    requires far { from + 1024 ≤ to }
-    requires target { to + count ≤ length slice.old }
-    ensures { slice.new ≡ paste slice.old to (drop from slice.old) count }
-{
-    let part = to - from;
-    let mut left = count;
-    'moves: while part < left {
-        left -= part;
-        copy_up(slice, from + left, to + left, part);
-    }
-    copy_up(slice, from, to, left);
-}
-
-/// Moves bytes down by a long distance, the first ones first.
-#[inline(never)]
-fn move_parts_down(slice: &mut [u8], from: usize, to: usize, count: usize)
-    requires far { to + 1024 ≤ from }
-    requires source { from + count ≤ length slice.old }
-    ensures { slice.new ≡ paste slice.old to (drop from slice.old) count }
-{
-    let part = from - to;
-    let mut done = 0;
-    'moves: while part < count - done {
-        copy_down(slice, from + done, to + done, part);
-        done += part;
-    }
-    copy_down(slice, from + done, to + done, count - done);
-}
-
-/// Copies bytes to a place after them.
+/// Moves `N` bytes, by one `memmove` if they are many.
 #[inline(always)]
-fn copy_up(slice: &mut [u8], from: usize, to: usize, count: usize)
-    requires apart { from + count ≤ to }
-    requires target { to + count ≤ length slice.old }
-    ensures { slice.new ≡ paste slice.old to (drop from slice.old) count }
+fn move_array<const N: usize>(slice: &mut [u8], from: usize, to: usize)
+    requires source { from + N ≤ length slice.old }
+    requires target { to + N ≤ length slice.old }
+    ensures { slice.new ≡ paste slice.old to (drop from slice.old) N }
 {
-    let (low, high) = slice.split_at_mut(to);
-    high[..count].copy_from_slice(&low[from..from + count]);
-}
-
-/// Copies bytes to a place before them.
-#[inline(always)]
-fn copy_down(slice: &mut [u8], from: usize, to: usize, count: usize)
-    requires apart { to + count ≤ from }
-    requires source { from + count ≤ length slice.old }
-    ensures { slice.new ≡ paste slice.old to (drop from slice.old) count }
-{
-    let (low, high) = slice.split_at_mut(from);
-    low[to..to + count].copy_from_slice(&high[..count]);
+    let array = array_at::<N>(slice, from);
+    set_array::<N>(&mut slice[to..to + N], array);
 }
 
 /// Moves at most two blocks.

@@ -8,8 +8,8 @@ pub returns-clause-written : goal.returns-clause-written
 returns-clause-written c =
     let bytes = c.encoded-len.result.0 in
     let slice = c.args.slice.now in
-    let four = ap length c.set_four.ensures in
-    ap (take (c.args.at + c.encoded-len.result.1)) (put_mid-paste c.args.at _ slice _ bytes 4 c.set_four.ensures
+    let four = ap length c.set_array.ensures in
+    ap (take (c.args.at + c.encoded-len.result.1)) (put_mid-paste c.args.at _ slice _ bytes 4 c.set_array.ensures
     (omega arith) (omega (arith, four)))
     ∙ padded slice bytes bytes 4 c.args.at c.encoded-len.result.1 c.encoded-len.ensures.most (omega arith)
     (sym (take_all 4 bytes (omega (arith, four)))) (omega (arith, four))
