@@ -1,7 +1,7 @@
 //! Reading packed bytes, and writing their last byte.
 #![tactic(auto, using(crate::proofs::PackedFacts::packed_facts))]
 
-ghost use Rattle.std.specs.Prelude.{◌≡◌, ◌+◌, ◌*◌, ◌^◌, ◌≤◌, ◌<◌, length, take, bit_or, nat_lt, if◌then◌else◌, IsTrue, ◌↔◌};
+ghost use Rattle.std.specs.Prelude.{◌≡◌, ◌+◌, ◌*◌, ◌^◌, ◌≤◌, ◌<◌, length, take, bit_or, nat_lt, if◌then◌else◌, IsTrue, ◌↔◌, MatchOption};
 ghost use Rattle.std.specs.Str.{IsUtf8};
 ghost use Rattle.compact_repr.specs.Words.{INLINE_CAPACITY, text_of};
 ghost use Rattle.compact_repr.specs.Packed.{IsPackedFor, packed_len, packed_text, packed_bytes};
@@ -46,6 +46,22 @@ pub fn decode_len(bytes: &[u8; 24]) -> usize
         len
     } else {
         INLINE_CAPACITY
+    }
+}
+
+/// Returns the length that the last byte encodes if it is below 24, by a branch: an edit that writes at the end would
+/// wait for the comparison of `decode_len`.
+#[inline(always)]
+pub fn len_below_24(bytes: &[u8; 24]) -> Option<usize>
+    requires { packed_len bytes.now ≤ INLINE_CAPACITY }
+    ensures { MatchOption result (packed_len bytes.now ≡ INLINE_CAPACITY)
+        (λ n. (n ≡ packed_len bytes.now) × (n < INLINE_CAPACITY)) }
+{
+    let len = usize::from(bytes[INLINE_CAPACITY - 1]).wrapping_sub(192);
+    if len < INLINE_CAPACITY {
+        Some(len)
+    } else {
+        None
     }
 }
 

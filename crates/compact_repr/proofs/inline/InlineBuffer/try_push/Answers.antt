@@ -6,7 +6,7 @@ use Rattle.compact_repr.proofs.inline.InlineBuffer.try_push.Goals as goal
 
 pub write_len-requires-clause-text : goal.write_len-requires-clause-text
 write_len-requires-clause-text c =
-    rw (c.in-Some.ensures.written, c.decode_len-len.ensures)
+    rw (c.in-Some-try_write_char.ensures.written, c.in-Some.ensures.0)
     (utf8-pushed _ c.args.character c.ranges.character.0 (utf8-seen _ c.self.invariant))
 
 pub invariant_of-self-2 : goal.invariant_of-self-2
@@ -17,14 +17,14 @@ returns-clause-fits c _ =
     omega (
       arith,
       len-seen _ c.self.view_is c.self.invariant,
-      c.decode_len-len.ensures,
-      c.in-Some.ensures.end,
-      c.in-Some.ensures.within,
+      c.in-Some.ensures.0,
+      c.in-Some-try_write_char.ensures.end,
+      c.in-Some-try_write_char.ensures.within,
       c.self.told,
     )
 
 pub returns-clause-pushed : goal.returns-clause-pushed
 returns-clause-pushed c _ =
     packed-text _ _ c.write_len.ensures
-    ∙ rw (c.in-Some.ensures.written, c.decode_len-len.ensures, ← c.self.view_is)
+    ∙ rw (c.in-Some-try_write_char.ensures.written, c.in-Some.ensures.0, ← c.self.view_is)
     (text_of-pushed _ c.args.character c.ranges.character.0 (utf8-seen _ c.self.invariant))
