@@ -1,13 +1,14 @@
 //! Concatenating pieces, with a separator between each two.
-ghost use Rattle.std.specs.Prelude.{◌≡◌, List, ◌++◌, ◌∷◌, IfOk, OnErr};
+ghost use Rattle.std.specs.Prelude.{◌≡◌, ◌<◌, List, ◌++◌, ◌∷◌, IfOk, OnOk, OnErr};
 ghost use Rattle.std.specs.Iterator.{Drains, IsFinite};
-ghost use Rattle.compact_str.specs.Words.{text_of};
+ghost use Rattle.compact_str.specs.Words.{INLINE_CAPACITY, size, text_of};
 ghost use Rattle.compact_str.specs.Room.{IsPlacedBySize};
 ghost use Rattle.compact_str.specs.Collect.{PassesInline, join};
 
 use crate::builder::{Builder, COLLECTED, SHOWN};
+use crate::decode::push_or_reserve;
 use crate::error::ReserveError;
-use crate::iter::element::Element;
+use crate::iter::element::{Element, MAX_BLOCK_PIECE};
 use crate::stack_buffer::{PaddedStr, StackBuffer};
 use crate::string::PolicyString;
 use compact_repr::Policy;
@@ -70,6 +71,9 @@ fn gather_long<P: Policy, T: Element, I: Iterator<Item = T> + Drop>(
         ++ join (text_of separator.now) T.text (first ∷ xs))
         others) }
 {
+    if start.len() <= SHOWN - MAX_BLOCK_PIECE {
+        return gather_in_place(alloc, start, between, first, others, separator);
+    }
     let mut gathered: Builder<P, COLLECTED> = Builder::new(alloc);
     gathered.push_str(start)?;
     first.push_separated(&mut gathered, between, &None)?;
@@ -78,4 +82,55 @@ fn gather_long<P: Policy, T: Element, I: Iterator<Item = T> + Drop>(
         piece.push_separated(&mut gathered, separator, &padded)?;
     }
     gathered.finish()
+}
+
+/// The same for pieces that begin with a long one, each appended to the string itself.
+fn gather_in_place<P: Policy, T: Element, I: Iterator<Item = T> + Drop>(
+    alloc: Global,
+    start: &str,
+    between: &str,
+    first: T,
+    others: I,
+    separator: &str,
+) -> Result<PolicyString<P>, ReserveError>
+    requires can { I.can_next others }
+    requires ends { IsFinite (I.remaining others) }
+    ensures ok { IfOk result
+        (λ v. (xs : List T) × Drains I.next_gives others xs
+        × (v.text ≡ (text_of start.now ++ text_of between.now)
+        ++ join (text_of separator.now) T.text (first ∷ xs))) }
+    ensures place { IfOk result IsPlacedBySize }
+    ensures err { OnErr result
+        (PassesInline I.next_gives
+        (λ xs. (text_of start.now ++ text_of between.now)
+        ++ join (text_of separator.now) T.text (first ∷ xs))
+        others) }
+{
+    let mut gathered = PolicyString::default(alloc);
+    push_or_reserve(&mut gathered, start, 0)?;
+    push_or_reserve(&mut gathered, between, 0)?;
+    first.push_collected(&mut gathered)?;
+    for piece in others {
+        push_separated(&mut gathered, separator, &piece)?;
+    }
+    Ok(gathered)
+}
+
+/// Appends `separator` and then the piece to a collected text.
+#[inline]
+#[tactic(auto, using(crate::proofs::CollectFacts::builder_facts))]
+fn push_separated<P: Policy, T: Element>(
+    made: &mut PolicyString<P>,
+    separator: &str,
+    piece: &T,
+) -> Result<(), ReserveError>
+    requires { IsPlacedBySize made.old }
+    ensures place { OnOk result (IsPlacedBySize made.new) }
+    ensures text { OnOk result (made.new.text
+        ≡ (made.old.text ++ text_of separator.now) ++ T.text piece.now) }
+    ensures err { OnErr result (INLINE_CAPACITY
+        < size ((made.old.text ++ text_of separator.now) ++ T.text piece.now)) }
+{
+    push_or_reserve(made, separator, 0)?;
+    piece.push_collected(made)
 }
