@@ -1,12 +1,11 @@
 -- Edits of packed texts: the facts of `Cuts` and `Ascii`, for the first bytes of a packed array.
-use Rattle.std.proofs.Common.{◌≡◌, ℕ, ◌-◌, ◌<◌, ◌≤◌, List, [], ◌∷◌, ◌++◌, length, take, suc, ap, sym, ◌∙◌, subst, arith, slice_index_or}
+use Rattle.std.proofs.Common.{◌≡◌, ℕ, ◌≤◌, List, take, ap, sym, ◌∙◌, subst, arith}
 use Rattle.std.specs.Str.{IsUtf8}
 use Rattle.std.proofs.lemmas.List.{take-take}
-use Rattle.std.proofs.Math.Seq.{take-suc}
 use Rattle.compact_text.specs.Text.{size, text_of}
 use Rattle.compact_text.specs.Cut.{IsBoundary, text_before}
 use Rattle.compact_repr.specs.Packed.{IsPackedFor, packed_len, packed_text}
-use Rattle.compact_text.proofs.CutLemmas.{boundary-within, text_of-last_ascii, text_of-take, utf8-take}
+use Rattle.compact_text.proofs.CutLemmas.{boundary-within, text_of-take, utf8-take}
 use Rattle.compact_repr.proofs.PackedTexts.{packed-len, packed-most, packed-utf8, packed-seen}
 
 -- the encoded length is the size of the text
@@ -39,12 +38,3 @@ pub text_of-cut : {t : List ℕ} (bytes : List ℕ) (n : ℕ) → packed_text by
     → IsPackedFor bytes (packed_text bytes) → IsBoundary t n → text_of (take n bytes) ≡ text_before t n
 text_of-cut bytes n e p h = ap text_of (sym (front-is bytes n e p h))
     ∙ text_of-take (take (packed_len bytes) bytes) n e (utf8-seen bytes p) h
-
--- the last of the first bytes is an ASCII character
-pub text_of-without_ascii : (bytes : List ℕ) (n : ℕ) → IsUtf8 (take n bytes) → n ≤ length bytes → 0 < n
-    → slice_index_or bytes (n - 1) 0 < 128 → IsUtf8 (take (n - 1) bytes)
-    × (text_of (take n bytes) ≡ text_of (take (n - 1) bytes) ++ slice_index_or bytes (n - 1) 0 ∷ [])
-text_of-without_ascii bytes n u within some low =
-    let more : suc (n - 1) ≡ n = omega (arith, some) in
-    text_of-last_ascii (take n bytes) (take (n - 1) bytes) (slice_index_or bytes (n - 1) 0) u
-    (ap (λ (j : ℕ). take j bytes) (sym more) ∙ take-suc bytes (n - 1) 0 (omega (arith, within, some))) low

@@ -1,7 +1,7 @@
 //! An inline buffer: a text of at most 24 bytes, packed into the value itself.
 #![tactic(auto, using(crate::proofs::PackedFacts::packed_facts))]
 
-ghost use Rattle.std.specs.Prelude.{◌≡◌, ◌+◌, ◌-◌, ◌≤◌, ℕ, List, [], ◌∷◌, ◌++◌, length, false, IsTrue, ◌↔◌, IfSome, None, MatchOption};
+ghost use Rattle.std.specs.Prelude.{◌≡◌, ◌+◌, ◌-◌, ◌≤◌, ℕ, List, [], ◌∷◌, ◌++◌, length, false, IsTrue, ◌↔◌, MatchOption};
 ghost use Rattle.std.specs.Char.{len_utf8};
 ghost use Rattle.compact_repr.specs.Words.{INLINE_CAPACITY, size, utf8, text_of, IsText, IsBoundary, text_before, replaced_text};
 ghost use Rattle.compact_repr.specs.Packed.{IsPackedFor};
@@ -88,12 +88,15 @@ impl InlineBuffer {
 
     /// Appends `text` if it fits. Returns whether it did; otherwise changes nothing.
     #[inline]
+    #[tactic(auto, using(crate::proofs::PackedFacts::packed_facts, compact_text::proofs::TextFacts::empty_facts))]
     pub fn try_push_str(&mut self, text: &str) -> bool
         ensures fits { IsTrue result ↔ (size self.old + length text.now ≤ INLINE_CAPACITY) }
         ensures pushed { IsTrue result → self.new ≡ self.old ++ text_of text.now }
         ensures full { result ≡ false → self.new ≡ self.old }
     {
-        let len = decode_len(&self.bytes);
+        let Some(len) = len_below_24(&self.bytes) else {
+            return text.is_empty();
+        };
         if text.len() > INLINE_CAPACITY - len {
             return false;
         }
@@ -161,27 +164,9 @@ impl InlineBuffer {
         ensures { MatchOption result ((self.old ≡ []) × (self.new ≡ self.old))
             (λ c. self.old ≡ self.new ++ c ∷ []) }
     {
-        if let Some(byte) = self.pop_ascii() {
-            return Some(char::from(byte));
-        }
         let (index, character) = split_last(self.as_str())?;
         self.truncate(index);
         Some(character)
-    }
-
-    /// Removes and returns the last byte if it is ASCII and the text is shorter than 24 bytes; otherwise changes nothing.
-    #[inline(always)]
-    fn pop_ascii(&mut self) -> Option<u8>
-        ensures popped { IfSome result (λ byte. self.old ≡ self.new ++ byte ∷ []) }
-        ensures others { result ≡ None → self.new ≡ self.old }
-    {
-        let len = len_below_24(&self.bytes)?;
-        if len == 0 || self.bytes[len - 1] >= 128 {
-            return None;
-        }
-        let byte = self.bytes[len - 1];
-        write_len(&mut self.bytes, len - 1);
-        Some(byte)
     }
 
     /// Replaces the whole text with `text` if it fits. Returns whether it did; otherwise changes nothing.
