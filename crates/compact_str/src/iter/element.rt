@@ -40,12 +40,16 @@ pub trait Element: Drop {
         ensures pushed { IsTrue result → block.new ≡ block.old ++ text self.now }
         ensures full { result ≡ false → block.new ≡ block.old };
 
-    /// Appends the piece to a collected text. A first allocation has room for two more like it.
+    /// Appends the piece to a collected text. A first allocation has room for `more` such texts.
     ///
     /// # Errors
     ///
     /// [`ReserveError`] if allocation fails. Never fails up to 24 bytes.
-    fn push_collected<P: Policy>(&self, made: &mut PolicyString<P>) -> Result<(), ReserveError>
+    fn push_collected<P: Policy>(
+        &self,
+        made: &mut PolicyString<P>,
+        more: usize,
+    ) -> Result<(), ReserveError>
         requires { IsPlacedBySize made.old }
         ensures place { OnOk result (IsPlacedBySize made.new) }
         ensures text { OnOk result (made.new.text ≡ made.old.text ++ text self.now) }
@@ -87,9 +91,13 @@ impl<T: AsText> Element for T {
     }
 
     #[inline]
-    fn push_collected<P: Policy>(&self, made: &mut PolicyString<P>) -> Result<(), ReserveError> {
+    fn push_collected<P: Policy>(
+        &self,
+        made: &mut PolicyString<P>,
+        more: usize,
+    ) -> Result<(), ReserveError> {
         let text = self.text();
-        push_or_reserve(made, text, text.len().saturating_mul(2))
+        push_or_reserve(made, text, text.len().saturating_mul(more))
     }
 
     #[inline]
@@ -121,7 +129,11 @@ impl Element for char {
     }
 
     #[inline]
-    fn push_collected<P: Policy>(&self, made: &mut PolicyString<P>) -> Result<(), ReserveError> {
+    fn push_collected<P: Policy>(
+        &self,
+        made: &mut PolicyString<P>,
+        _more: usize,
+    ) -> Result<(), ReserveError> {
         let mut bytes = [0; 4];
         push_or_reserve(made, encode_char(*self, &mut bytes), 0)
     }
@@ -152,7 +164,11 @@ impl Element for &char {
     }
 
     #[inline]
-    fn push_collected<P: Policy>(&self, made: &mut PolicyString<P>) -> Result<(), ReserveError> {
+    fn push_collected<P: Policy>(
+        &self,
+        made: &mut PolicyString<P>,
+        _more: usize,
+    ) -> Result<(), ReserveError> {
         let mut bytes = [0; 4];
         push_or_reserve(made, encode_char(**self, &mut bytes), 0)
     }

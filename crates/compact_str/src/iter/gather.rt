@@ -84,7 +84,8 @@ fn gather_long<P: Policy, T: Element, I: Iterator<Item = T> + Drop>(
     gathered.finish()
 }
 
-/// The same for pieces that begin with a long one, each appended to the string itself.
+/// The same, if the first of these pieces is long: each is appended to the string itself, once it is known whether another
+/// follows.
 fn gather_in_place<P: Policy, T: Element, I: Iterator<Item = T> + Drop>(
     alloc: Global,
     start: &str,
@@ -109,28 +110,30 @@ fn gather_in_place<P: Policy, T: Element, I: Iterator<Item = T> + Drop>(
     let mut gathered = PolicyString::default(alloc);
     push_or_reserve(&mut gathered, start, 0)?;
     push_or_reserve(&mut gathered, between, 0)?;
-    first.push_collected(&mut gathered)?;
+    let mut last = first;
     for piece in others {
-        push_separated(&mut gathered, separator, &piece)?;
+        push_followed(&mut gathered, &last, separator)?;
+        last = piece;
     }
+    last.push_collected(&mut gathered, 0)?;
     Ok(gathered)
 }
 
-/// Appends `separator` and then the piece to a collected text.
+/// Appends the piece and then `separator` to a collected text. A first allocation has room for two more such pieces.
 #[inline]
 #[tactic(auto, using(crate::proofs::CollectFacts::builder_facts))]
-fn push_separated<P: Policy, T: Element>(
+fn push_followed<P: Policy, T: Element>(
     made: &mut PolicyString<P>,
-    separator: &str,
     piece: &T,
+    separator: &str,
 ) -> Result<(), ReserveError>
     requires { IsPlacedBySize made.old }
     ensures place { OnOk result (IsPlacedBySize made.new) }
     ensures text { OnOk result (made.new.text
-        ≡ (made.old.text ++ text_of separator.now) ++ T.text piece.now) }
+        ≡ (made.old.text ++ T.text piece.now) ++ text_of separator.now) }
     ensures err { OnErr result (INLINE_CAPACITY
-        < size ((made.old.text ++ text_of separator.now) ++ T.text piece.now)) }
+        < size ((made.old.text ++ T.text piece.now) ++ text_of separator.now)) }
 {
-    push_or_reserve(made, separator, 0)?;
-    piece.push_collected(made)
+    piece.push_collected(made, 2)?;
+    push_or_reserve(made, separator, 0)
 }

@@ -197,7 +197,7 @@ impl<P: Policy> FusedIterator for Drain<'_, P> {}
 impl<P: Policy> Drop for Drain<'_, P> {
     ghost use Rattle.compact_str.specs.Drain.{value_after_drain};
 
-    #[inline]
+    #[inline(always)]
     #[tactic(auto, using(crate::proofs::DrainLemmas::without_range_facts))]
     fn drop(self)
         ensures { self.exit.0.now ≡ value_after_drain self.entry }
