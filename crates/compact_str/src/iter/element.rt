@@ -40,7 +40,7 @@ pub trait Element: Drop {
         ensures pushed { IsTrue result → block.new ≡ block.old ++ text self.now }
         ensures full { result ≡ false → block.new ≡ block.old };
 
-    /// Appends the piece to a collected text. A first allocation has room for `more` such texts.
+    /// Appends the piece to a collected text. A first allocation has room for `more` such texts, each after `between` bytes.
     ///
     /// # Errors
     ///
@@ -49,6 +49,7 @@ pub trait Element: Drop {
         &self,
         made: &mut PolicyString<P>,
         more: usize,
+        between: usize,
     ) -> Result<(), ReserveError>
         requires { IsPlacedBySize made.old }
         ensures place { OnOk result (IsPlacedBySize made.new) }
@@ -95,9 +96,11 @@ impl<T: AsText> Element for T {
         &self,
         made: &mut PolicyString<P>,
         more: usize,
+        between: usize,
     ) -> Result<(), ReserveError> {
         let text = self.text();
-        push_or_reserve(made, text, text.len().saturating_mul(more))
+        let more = text.len().saturating_add(between).saturating_mul(more);
+        push_or_reserve(made, text, more)
     }
 
     #[inline]
@@ -133,6 +136,7 @@ impl Element for char {
         &self,
         made: &mut PolicyString<P>,
         _more: usize,
+        _between: usize,
     ) -> Result<(), ReserveError> {
         let mut bytes = [0; 4];
         push_or_reserve(made, encode_char(*self, &mut bytes), 0)
@@ -168,6 +172,7 @@ impl Element for &char {
         &self,
         made: &mut PolicyString<P>,
         _more: usize,
+        _between: usize,
     ) -> Result<(), ReserveError> {
         let mut bytes = [0; 4];
         push_or_reserve(made, encode_char(**self, &mut bytes), 0)

@@ -39,7 +39,11 @@ pub fn gather<P: Policy, T: Element, I: Iterator<Item = T> + Drop>(
             return gather_long(alloc, block.as_str(), between, piece, pieces, separator);
         }
         if !piece.try_push_to_block(&mut block) {
-            return gather_long(alloc, block.as_str(), "", piece, pieces, separator);
+            let start = block.as_str();
+            if start.len() <= SHOWN - MAX_BLOCK_PIECE {
+                return gather_in_place(alloc, start, piece, pieces, separator);
+            }
+            return gather_long(alloc, start, "", piece, pieces, separator);
         }
         between = separator;
     }
@@ -71,9 +75,6 @@ fn gather_long<P: Policy, T: Element, I: Iterator<Item = T> + Drop>(
         ++ join (text_of separator.now) T.text (first ∷ xs))
         others) }
 {
-    if start.len() <= SHOWN - MAX_BLOCK_PIECE {
-        return gather_in_place(alloc, start, between, first, others, separator);
-    }
     let mut gathered: Builder<P, COLLECTED> = Builder::new(alloc);
     gathered.push_str(start)?;
     first.push_separated(&mut gathered, between, &None)?;
@@ -84,12 +85,12 @@ fn gather_long<P: Policy, T: Element, I: Iterator<Item = T> + Drop>(
     gathered.finish()
 }
 
-/// The same, if the first of these pieces is long: each is appended to the string itself, once it is known whether another
-/// follows.
+/// Appends to `start` the text `first`, which is long, and the other pieces, each after `separator`: to the string itself,
+/// each once it is known whether another follows.
+#[inline(never)]
 fn gather_in_place<P: Policy, T: Element, I: Iterator<Item = T> + Drop>(
     alloc: Global,
     start: &str,
-    between: &str,
     first: T,
     others: I,
     separator: &str,
@@ -98,28 +99,24 @@ fn gather_in_place<P: Policy, T: Element, I: Iterator<Item = T> + Drop>(
     requires ends { IsFinite (I.remaining others) }
     ensures ok { IfOk result
         (λ v. (xs : List T) × Drains I.next_gives others xs
-        × (v.text ≡ (text_of start.now ++ text_of between.now)
-        ++ join (text_of separator.now) T.text (first ∷ xs))) }
+        × (v.text ≡ text_of start.now ++ join (text_of separator.now) T.text (first ∷ xs))) }
     ensures place { IfOk result IsPlacedBySize }
     ensures err { OnErr result
         (PassesInline I.next_gives
-        (λ xs. (text_of start.now ++ text_of between.now)
-        ++ join (text_of separator.now) T.text (first ∷ xs))
-        others) }
+        (λ xs. text_of start.now ++ join (text_of separator.now) T.text (first ∷ xs)) others) }
 {
     let mut gathered = PolicyString::default(alloc);
     push_or_reserve(&mut gathered, start, 0)?;
-    push_or_reserve(&mut gathered, between, 0)?;
     let mut last = first;
     for piece in others {
         push_followed(&mut gathered, &last, separator)?;
         last = piece;
     }
-    last.push_collected(&mut gathered, 0)?;
+    last.push_collected(&mut gathered, 0, 0)?;
     Ok(gathered)
 }
 
-/// Appends the piece and then `separator` to a collected text. A first allocation has room for two more such pieces.
+/// Appends the piece and then `separator` to a collected text. A first allocation has room for two more of both.
 #[inline]
 #[tactic(auto, using(crate::proofs::CollectFacts::builder_facts))]
 fn push_followed<P: Policy, T: Element>(
@@ -134,6 +131,6 @@ fn push_followed<P: Policy, T: Element>(
     ensures err { OnErr result (INLINE_CAPACITY
         < size ((made.old.text ++ T.text piece.now) ++ text_of separator.now)) }
 {
-    piece.push_collected(made, 2)?;
+    piece.push_collected(made, 2, separator.len())?;
     push_or_reserve(made, separator, 0)
 }

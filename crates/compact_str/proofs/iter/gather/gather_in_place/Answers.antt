@@ -7,7 +7,7 @@ use Rattle.compact_str.proofs.iter.gather.gather_in_place.Goals as goal
 
 pub returns-in_err-push_followed-clause-err : goal.returns-in_err-push_followed-clause-err
 returns-in_err-push_followed-clause-err g c =
-    let before = text_of c.args.start.now ++ text_of c.args.between.now in
+    let before = text_of c.args.start.now in
     let separator = text_of c.args.separator.now in
     let text = g.T.Element.text in
     on_err _ (passes g.I.Iterator.next_gives (λ xs. before ++ join separator text (c.args.first ∷ xs)) c.args.others _

@@ -7,4 +7,4 @@ use Rattle.compact_str.proofs.iter.gather.gather_in_place.Given as goal
 -- the items so far are appended, but for the last one
 abbrev pub invariant-loop-piece : goal.invariant-loop-piece
 invariant-loop-piece g l = IsPlacedBySize l.gathered × (l.gathered.text ++ g.T.Element.text l.last
-    ≡ (text_of l.start ++ text_of l.between) ++ join (text_of l.separator) g.T.Element.text (l.fn.first ∷ l.yielded))
+    ≡ text_of l.start ++ join (text_of l.separator) g.T.Element.text (l.fn.first ∷ l.yielded))
