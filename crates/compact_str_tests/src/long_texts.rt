@@ -76,15 +76,6 @@ fn long_texts_are_concatenated(rt: HostRuntime) {
 }
 
 #[test]
-fn many_characters_are_collected(rt: HostRuntime) {
-    let rt = &rt;
-    let alloc = rt.alloc();
-    let text = long(rt, alloc);
-    let made = CompactString::from_chars(alloc, text.chars()).expect(rt, "memory");
-    assert_that!(rt, made.as_str() == text.as_str());
-}
-
-#[test]
 fn a_long_json_string_is_read(rt: HostRuntime) {
     let rt = &rt;
     let alloc = rt.alloc();

@@ -32,8 +32,7 @@ fn collect_elements<P: Policy, T: Element, U: IntoIterator<Item = T>>(
 impl<P: Policy> PolicyString<P> {
     /// Concatenates `texts`, like `collect`. The result is inline up to 24 bytes, else on the heap.
     ///
-    /// Does not use `size_hint`. Allocates at most once up to 1024 bytes in texts of at most 64. If a longer one comes early,
-    /// there is room for two more such texts.
+    /// Does not use `size_hint`. Allocates at most once up to 1024 bytes.
     ///
     /// # Errors
     ///

@@ -2,19 +2,16 @@
 ghost use Rattle.std.specs.Prelude.{◌≡◌, ℕ, ◌<◌, List, ◌++◌, OnOk, OnErr, IsOk, IfSome, IsTrue, false};
 ghost use Rattle.compact_str.specs.Words.{INLINE_CAPACITY, size, text_of, PlacedFor, AllocatesFor, room_to_append, HasRoomFor};
 ghost use Rattle.compact_str.specs.Collect.{char_text};
-ghost use Rattle.compact_str.specs.Room.{IsPlacedBySize};
 
 use crate::builder::{Builder, COLLECTED, SHOWN};
-use crate::decode::push_or_reserve;
 use crate::error::ReserveError;
 use crate::iter::AsText;
 use crate::stack_buffer::{PaddedStr, StackBuffer};
 use crate::string::PolicyString;
 use compact_repr::Policy;
-use compact_text::str_parts::encode_char;
 
 /// The longest text that goes to the short block. A longer one would mostly be copied to the long block after it.
-pub const MAX_BLOCK_PIECE: usize = 64;
+const MAX_BLOCK_PIECE: usize = 64;
 
 /// A text or a character, which is appended as a whole.
 pub trait Element: Drop {
@@ -39,22 +36,6 @@ pub trait Element: Drop {
     fn try_push_to_block(&self, block: &mut StackBuffer<SHOWN>) -> bool
         ensures pushed { IsTrue result → block.new ≡ block.old ++ text self.now }
         ensures full { result ≡ false → block.new ≡ block.old };
-
-    /// Appends the piece to a collected text. A first allocation has room for `more` such texts, each after `between` bytes.
-    ///
-    /// # Errors
-    ///
-    /// [`ReserveError`] if allocation fails. Never fails up to 24 bytes.
-    fn push_collected<P: Policy>(
-        &self,
-        made: &mut PolicyString<P>,
-        more: usize,
-        between: usize,
-    ) -> Result<(), ReserveError>
-        requires { IsPlacedBySize made.old }
-        ensures place { OnOk result (IsPlacedBySize made.new) }
-        ensures text { OnOk result (made.new.text ≡ made.old.text ++ text self.now) }
-        ensures err { OnErr result (INLINE_CAPACITY < size (made.old.text ++ text self.now)) };
 
     /// Appends `separator` and then the piece to a builder. `padded` is the same separator, if it is short.
     ///
@@ -92,18 +73,6 @@ impl<T: AsText> Element for T {
     }
 
     #[inline]
-    fn push_collected<P: Policy>(
-        &self,
-        made: &mut PolicyString<P>,
-        more: usize,
-        between: usize,
-    ) -> Result<(), ReserveError> {
-        let text = self.text();
-        let more = text.len().saturating_add(between).saturating_mul(more);
-        push_or_reserve(made, text, more)
-    }
-
-    #[inline]
     #[tactic(auto, using(crate::proofs::CollectFacts::builder_facts, compact_text::proofs::Texts::empty_text))]
     fn push_separated<P: Policy>(
         &self,
@@ -131,17 +100,6 @@ impl Element for char {
         block.try_push(*self)
     }
 
-    #[inline]
-    fn push_collected<P: Policy>(
-        &self,
-        made: &mut PolicyString<P>,
-        _more: usize,
-        _between: usize,
-    ) -> Result<(), ReserveError> {
-        let mut bytes = [0; 4];
-        push_or_reserve(made, encode_char(*self, &mut bytes), 0)
-    }
-
     #[inline(always)]
     fn push_separated<P: Policy>(
         &self,
@@ -165,17 +123,6 @@ impl Element for &char {
     #[inline]
     fn try_push_to_block(&self, block: &mut StackBuffer<SHOWN>) -> bool {
         block.try_push(**self)
-    }
-
-    #[inline]
-    fn push_collected<P: Policy>(
-        &self,
-        made: &mut PolicyString<P>,
-        _more: usize,
-        _between: usize,
-    ) -> Result<(), ReserveError> {
-        let mut bytes = [0; 4];
-        push_or_reserve(made, encode_char(**self, &mut bytes), 0)
     }
 
     #[inline(always)]

@@ -1,14 +1,13 @@
 //! Concatenating pieces, with a separator between each two.
-ghost use Rattle.std.specs.Prelude.{◌≡◌, ◌<◌, List, ◌++◌, ◌∷◌, IfOk, OnOk, OnErr};
+ghost use Rattle.std.specs.Prelude.{◌≡◌, List, ◌++◌, ◌∷◌, IfOk, OnErr};
 ghost use Rattle.std.specs.Iterator.{Drains, IsFinite};
-ghost use Rattle.compact_str.specs.Words.{INLINE_CAPACITY, size, text_of};
+ghost use Rattle.compact_str.specs.Words.{text_of};
 ghost use Rattle.compact_str.specs.Room.{IsPlacedBySize};
 ghost use Rattle.compact_str.specs.Collect.{PassesInline, join};
 
 use crate::builder::{Builder, COLLECTED, SHOWN};
-use crate::decode::push_or_reserve;
 use crate::error::ReserveError;
-use crate::iter::element::{Element, MAX_BLOCK_PIECE};
+use crate::iter::element::Element;
 use crate::stack_buffer::{PaddedStr, StackBuffer};
 use crate::string::PolicyString;
 use compact_repr::Policy;
@@ -39,11 +38,7 @@ pub fn gather<P: Policy, T: Element, I: Iterator<Item = T> + Drop>(
             return gather_long(alloc, block.as_str(), between, piece, pieces, separator);
         }
         if !piece.try_push_to_block(&mut block) {
-            let start = block.as_str();
-            if start.len() <= SHOWN - MAX_BLOCK_PIECE {
-                return gather_in_place(alloc, start, piece, pieces, separator);
-            }
-            return gather_long(alloc, start, "", piece, pieces, separator);
+            return gather_long(alloc, block.as_str(), "", piece, pieces, separator);
         }
         between = separator;
     }
@@ -83,54 +78,4 @@ fn gather_long<P: Policy, T: Element, I: Iterator<Item = T> + Drop>(
         piece.push_separated(&mut gathered, separator, &padded)?;
     }
     gathered.finish()
-}
-
-/// Appends to `start` the text `first`, which is long, and the other pieces, each after `separator`: to the string itself,
-/// each once it is known whether another follows.
-#[inline(never)]
-fn gather_in_place<P: Policy, T: Element, I: Iterator<Item = T> + Drop>(
-    alloc: Global,
-    start: &str,
-    first: T,
-    others: I,
-    separator: &str,
-) -> Result<PolicyString<P>, ReserveError>
-    requires can { I.can_next others }
-    requires ends { IsFinite (I.remaining others) }
-    ensures ok { IfOk result
-        (λ v. (xs : List T) × Drains I.next_gives others xs
-        × (v.text ≡ text_of start.now ++ join (text_of separator.now) T.text (first ∷ xs))) }
-    ensures place { IfOk result IsPlacedBySize }
-    ensures err { OnErr result
-        (PassesInline I.next_gives
-        (λ xs. text_of start.now ++ join (text_of separator.now) T.text (first ∷ xs)) others) }
-{
-    let mut gathered = PolicyString::default(alloc);
-    push_or_reserve(&mut gathered, start, 0)?;
-    let mut last = first;
-    for piece in others {
-        push_followed(&mut gathered, &last, separator)?;
-        last = piece;
-    }
-    last.push_collected(&mut gathered, 0, 0)?;
-    Ok(gathered)
-}
-
-/// Appends the piece and then `separator` to a collected text. A first allocation has room for two more of both.
-#[inline]
-#[tactic(auto, using(crate::proofs::CollectFacts::builder_facts))]
-fn push_followed<P: Policy, T: Element>(
-    made: &mut PolicyString<P>,
-    piece: &T,
-    separator: &str,
-) -> Result<(), ReserveError>
-    requires { IsPlacedBySize made.old }
-    ensures place { OnOk result (IsPlacedBySize made.new) }
-    ensures text { OnOk result (made.new.text
-        ≡ (made.old.text ++ T.text piece.now) ++ text_of separator.now) }
-    ensures err { OnErr result (INLINE_CAPACITY
-        < size ((made.old.text ++ T.text piece.now) ++ text_of separator.now)) }
-{
-    piece.push_collected(made, 2, separator.len())?;
-    push_or_reserve(made, separator, 0)
 }

@@ -28,10 +28,10 @@ returns-then-not-try_push_to_block g c =
     let i = c.loop-piece.invariant in
     let ended = c.gather_long-then-not-try_push_to_block.ensures in
     let all = later g.I.Iterator.next_gives g.T.Element.text (text_of c.args.separator.now) _ _ _ c.loop-piece.yielded
-    c.in-Some.piece (text_of c.as_str-start.result.now ++ text_of [])
+    c.in-Some.piece (text_of c.as_str-then-not-try_push_to_block.result.now ++ text_of [])
     c.gather_long-then-not-try_push_to_block.result c.loop-piece.yielded_by c.in-Some.ensures.steps
     (rw chars-nil (append-nil _ ∙ rw (
-      c.as_str-start.ensures.text,
+      c.as_str-then-not-try_push_to_block.ensures.text,
       c.try_push_to_block.ensures.full c.if-not-try_push_to_block.true,
       c.try_push_str.ensures.pushed c.if-not-try_push_str.false,
       i.1,
@@ -39,22 +39,6 @@ returns-then-not-try_push_to_block g c =
     ) refl))
     ended.ok ended.err in
     record { ok = all.0; place = ended.place; err = all.1 }
-
-pub returns-then-start : goal.returns-then-start
-returns-then-start g c =
-    let i = c.loop-piece.invariant in
-    let all = later g.I.Iterator.next_gives g.T.Element.text (text_of c.args.separator.now) _ _ _ c.loop-piece.yielded
-    c.in-Some.piece (text_of c.as_str-start.result.now) c.gather_in_place.result c.loop-piece.yielded_by
-    c.in-Some.ensures.steps
-    (rw (
-      c.as_str-start.ensures.text,
-      c.try_push_to_block.ensures.full c.if-not-try_push_to_block.true,
-      c.try_push_str.ensures.pushed c.if-not-try_push_str.false,
-      i.1,
-      i.2,
-    ) refl)
-    c.gather_in_place.ensures.ok c.gather_in_place.ensures.err in
-    record { ok = all.0; place = c.gather_in_place.ensures.place; err = all.1 }
 
 pub loop-piece-preserved : goal.loop-piece-preserved
 loop-piece-preserved g c =
