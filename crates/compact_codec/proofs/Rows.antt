@@ -4,7 +4,7 @@ use Rattle.std.proofs.Common.{subst, ◌∙◌, arith, inl, inr, ⊎_elim, drop}
 use Rattle.std.specs.Char.{IsScalar, encode_utf8}
 use Rattle.std.proofs.lemmas.Bool.{cases_lt, lt-ltb, le-ltb}
 use Rattle.std.proofs.lemmas.Str.{encode_same}
-use lib.Utf8.{encode, scalar, scalar_cases, low_scalar}
+use lib.Utf8.{scalar, scalar_cases, low_scalar}
 use Rattle.compact_text.proofs.Encodings.{encode_one, encode_two, encode_three, encode_four}
 use Rattle.compact_codec.specs.Utf8Table.{ByteRange, TableRow, FitsRow, FitsSomeRow, sequence_table, trailing_bytes}
 use Rattle.compact_codec.specs.Utf8Table.{byte_range, IsInByteRange, IsWellFormedSequence, IsOneCharacter, RowsAreApart}

@@ -13,8 +13,7 @@ use Rattle.compact_str.specs.Text.{size, utf8}
 use Rattle.compact_str.specs.Value.{PlacedText}
 use Rattle.compact_ext.specs.declared.lines.ReadLineError.{ReadLineError}
 use Rattle.compact_ext.specs.declared.lines.ReadLineError.TheVariants.{Utf8, Io, Reserve}
-use Rattle.compact_ext.specs.Lines.{newline, TakesLine, LineFails, IsAppendFault, BeginsWithLine, AppendsBytes}
-use Rattle.compact_ext.specs.Lines.{AppendsLine}
+use Rattle.compact_ext.specs.Lines.{newline, TakesLine, LineFails, IsAppendFault, BeginsWithLine}
 
 -- a line that was shown is consumed
 pub line-shown : (a b c : Option (List ℕ)) (buffered : Option ℕ) (shown : List ℕ) (n : ℕ) → BeginsWithLine shown n
