@@ -4,6 +4,7 @@ pub mod PlacementLemmas
 pub mod ByteOrder
 pub mod PackedArrays
 pub mod PackedTexts
+pub mod PackedAscii
 pub mod PackedEdits
 pub mod PackedFacts
 pub mod PackedOrder

@@ -133,7 +133,7 @@ packed-seen bytes e p = subst (λ (s : List ℕ). IsPackedFor bytes s) e p
 
 -- bytes that pack a text
 
-packs-short : (bytes : List ℕ) (n : ℕ) → length bytes ≡ 24 → n < 24 → IsUtf8 (take n bytes)
+pub packs-short : (bytes : List ℕ) (n : ℕ) → length bytes ≡ 24 → n < 24 → IsUtf8 (take n bytes)
     → get_or bytes 23 0 ≡ 192 + n
     → IsPackedFor bytes (text_of (take n bytes))
 packs-short bytes n all short u last =

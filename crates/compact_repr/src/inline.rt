@@ -13,7 +13,7 @@ mod length;
 
 use compact_text::slices::{self, Case};
 use compact_text::str_parts::split_last;
-use length::{decode_len, is_packed, len_below_24, pack, write_len};
+use length::{decode_len, is_packed, len_below_24, pack, pop_ascii, push_ascii, write_len};
 use std::marker::Model;
 
 /// The most bytes of an inline text.
@@ -113,6 +113,9 @@ impl InlineBuffer {
         ensures pushed { IsTrue result → self.new ≡ self.old ++ character ∷ [] }
         ensures full { result ≡ false → self.new ≡ self.old }
     {
+        if character.is_ascii() {
+            return push_ascii(&mut self.bytes, character as u8);
+        }
         let Some(len) = len_below_24(&self.bytes) else {
             return false;
         };
@@ -164,6 +167,9 @@ impl InlineBuffer {
         ensures { MatchOption result ((self.old ≡ []) × (self.new ≡ self.old))
             (λ c. self.old ≡ self.new ++ c ∷ []) }
     {
+        if let Some(byte) = pop_ascii(&mut self.bytes) {
+            return Some(char::from(byte));
+        }
         let (index, character) = split_last(self.as_str())?;
         self.truncate(index);
         Some(character)

@@ -1,5 +1,5 @@
 -- Appended bytes.
-use Rattle.std.proofs.Common.{◌≡◌, ℕ, ◌+◌, ◌-◌, ◌≤◌, List, [], ◌∷◌, ◌++◌, length, take, drop, replicate, refl, ap, sym}
+use Rattle.std.proofs.Common.{◌≡◌, ℕ, ◌+◌, ◌-◌, ◌≤◌, List, [], ◌∷◌, ◌++◌, length, take, drop, replicate, ap, sym}
 use Rattle.std.proofs.Common.{◌∙◌, arith, append_assoc}
 use Rattle.std.proofs.lemmas.List.{take-take, take_all, take-replicate, replicate-append-replicate}
 use Rattle.std.proofs.Math.Seq.{take-append-add, take-add}
@@ -20,13 +20,6 @@ pub one_more : (slice source : List ℕ) (k n m : ℕ) → k + n ≡ m
 one_more slice source k n m e =
     append_assoc slice (take k source) (take n (drop k source))
     ∙ ap (λ x. slice ++ x) (sym (take-add k n source) ∙ ap (λ (j : ℕ). take j source) e)
-
--- two blocks of n bytes, and then the last n
-pub three_blocks : (slice source : List ℕ) (len k n : ℕ) → len ≡ length slice → k ≤ n + n → k + n ≡ length source
-    → take (len + k) ((slice ++ take n source) ++ take n (drop n source)) ++ take n (drop k source) ≡ slice ++ source
-three_blocks slice source len k n e near all =
-    ap (λ x. take (len + k) x ++ take n (drop k source)) (one_more slice source n n (n + n) refl)
-    ∙ joined_ends slice source len (n + n) k n e near all
 
 pub one_more_zero : (slice : List ℕ) (first counter : ℕ) → first ≤ counter
     → (slice ++ replicate (counter - first) 0) ++ 0 ∷ [] ≡ slice ++ replicate (counter + 1 - first) 0

@@ -1,8 +1,9 @@
 -- Retaining characters in a slice of bytes.
-use Rattle.std.proofs.Common.{◌≡◌, ◌∙◌, refl, ap, sym, subst, arith, ℕ, ◌+◌, ◌-◌, ◌≤◌, List, [], ◌∷◌, ◌++◌, length}
+use Rattle.std.proofs.Common.{◌≡◌, ◌∙◌, refl, ap, sym, subst, arith, ℕ, ◌+◌, ◌-◌, ◌≤◌, ◌<◌, List, [], ◌∷◌, ◌++◌, length}
 use Rattle.std.proofs.Common.{take, drop, Bool, true, false, cond, append_assoc, append-nil, length-append}
 use Rattle.std.proofs.lemmas.List.{drop-drop, drop_all, length-drop, take_at}
-use Rattle.std.proofs.lemmas.Str.{drop_past_char, chars_past_char, IsUtf8-past_char, IsUtf8-append, IsUtf8-encode}
+use Rattle.std.proofs.lemmas.Str.{drop_past_char, chars_past_char, IsUtf8-past_char, IsUtf8-append, IsUtf8-encode, encode_ascii}
+use Rattle.std.proofs.lemmas.Bool.Decides.{nat_tests}
 use Rattle.std.proofs.lemmas.Str.{chars-nil}
 use Rattle.std.specs.Char.{len_utf8, IsScalar}
 use Rattle.std.specs.Fn.{Called, Mut}
@@ -112,3 +113,15 @@ retained-last g first f whole slice kept read h stands =
     let none : text_of (drop read slice) ≡ [] = ap (λ (l : List ℕ). text_of l) (drop_all read slice h) ∙ chars-nil in
     continues-end g first f whole (text_of (take kept slice))
     (subst (λ (l : List ℕ). Continues g first whole f (text_of (take kept slice)) l) none stands.2)
+
+scalar_ascii : (c : ℕ) → c < 128 → IsScalar c
+scalar_ascii c low = grind (arith, nat_tests)
+
+pub utf8-pushed_ascii : (bytes : List ℕ) (c : ℕ) → c < 128 → IsUtf8 bytes → IsUtf8 (bytes ++ c ∷ [])
+utf8-pushed_ascii bytes c low u =
+    subst (λ (x : List ℕ). IsUtf8 (bytes ++ x)) (encode_ascii c low) (utf8-pushed bytes c (scalar_ascii c low) u)
+
+pub text_of-pushed_ascii : (bytes : List ℕ) (c : ℕ) → c < 128 → IsUtf8 bytes
+    → text_of (bytes ++ c ∷ []) ≡ text_of bytes ++ c ∷ []
+text_of-pushed_ascii bytes c low u = ap (λ x. text_of (bytes ++ x)) (sym (encode_ascii c low))
+    ∙ text_of-pushed bytes c (scalar_ascii c low) u

@@ -13,7 +13,10 @@ use std::mem;
 /// The block size.
 const BLOCK: usize = 32;
 
-/// The block size above 256 bytes.
+/// The most bytes that are appended without a loop.
+const MAX_UNROLLED: usize = 256;
+
+/// The block size above that.
 const LONG_BLOCK: usize = 128;
 
 /// The block size for long input. Such a block is copied by one call.
@@ -103,8 +106,13 @@ pub fn append_to_local(vec: &mut Vec<u8>, source: &[u8])
 {
     if source.len() <= BLOCK {
         append_short(vec, source);
+    } else if source.len() <= MAX_UNROLLED {
+        append_up_to_256(vec, source);
     } else {
-        append_blocks(vec, source);
+        // A vector of its own, so that the caller's needs no address.
+        let mut moved = take_vec(vec);
+        append_in_loop(&mut moved, source);
+        restore_vec(vec, moved);
     }
 }
 
@@ -116,53 +124,69 @@ fn append_long(bytes: &mut Vec<u8>, source: &[u8])
     ensures items { bytes.new.items ≡ bytes.old.items ++ source.now }
     ensures capacity { vec_capacity bytes.new ≡ vec_capacity bytes.old }
 {
-    let mut vec = take_vec(bytes);
-    append_blocks(&mut vec, source);
-    restore_vec(bytes, vec);
+    if source.len() <= MAX_UNROLLED {
+        append_up_to_256(bytes, source);
+    } else {
+        append_in_loop(bytes, source);
+    }
 }
 
-/// Appends more than 32 bytes: up to 256 as both ends, with the middle if they leave one; more in long blocks.
+/// Appends 33 to 256 bytes as both ends, with the middle if they leave one.
 #[inline(always)]
-fn append_blocks(vec: &mut Vec<u8>, source: &[u8])
+fn append_up_to_256(bytes: &mut Vec<u8>, source: &[u8])
     requires long { 32 < length source.now }
-    requires room { vec_len vec.old + length source.now ≤ vec_capacity vec.old }
-    ensures items { vec.new.items ≡ vec.old.items ++ source.now }
-    ensures capacity { vec_capacity vec.new ≡ vec_capacity vec.old }
+    requires most { length source.now ≤ 256 }
+    requires room { vec_len bytes.old + length source.now ≤ vec_capacity bytes.old }
+    ensures items { bytes.new.items ≡ bytes.old.items ++ source.now }
+    ensures capacity { vec_capacity bytes.new ≡ vec_capacity bytes.old }
 {
     let count = source.len();
     if count <= 64 {
-        append_overlapping::<32>(vec, source);
+        append_overlapping::<32>(bytes, source);
     } else if count <= 128 {
-        append_overlapping::<64>(vec, source);
+        append_overlapping::<64>(bytes, source);
     } else if count <= 192 {
-        append_up_to_192(vec, source);
-    } else if count <= 256 {
-        append_overlapping::<128>(vec, source);
-    } else if count <= 2 * WHOLE_BLOCK {
-        append_in_blocks::<LONG_BLOCK>(vec, source);
+        append_in_blocks::<64>(bytes, source);
     } else {
-        append_in_blocks::<WHOLE_BLOCK>(vec, source);
+        append_overlapping::<128>(bytes, source);
+    }
+}
+
+/// Appends more than 256 bytes in long blocks. A function of its own, so that a shorter text saves no registers.
+#[inline(never)]
+fn append_in_loop(bytes: &mut Vec<u8>, source: &[u8])
+    requires long { 256 < length source.now }
+    requires room { vec_len bytes.old + length source.now ≤ vec_capacity bytes.old }
+    ensures items { bytes.new.items ≡ bytes.old.items ++ source.now }
+    ensures capacity { vec_capacity bytes.new ≡ vec_capacity bytes.old }
+{
+    if source.len() <= 2 * WHOLE_BLOCK {
+        append_in_blocks::<LONG_BLOCK>(bytes, source);
+    } else {
+        append_in_blocks::<WHOLE_BLOCK>(bytes, source);
     }
 }
 
 /// Appends `source`, which has at least `N` bytes, in blocks of `N`, of which the last overlaps the one before.
 #[inline(always)]
-fn append_in_blocks<const N: usize>(vec: &mut Vec<u8>, source: &[u8])
+fn append_in_blocks<const N: usize>(bytes: &mut Vec<u8>, source: &[u8])
     requires some { 0 < N }
     requires least { N ≤ length source.now }
-    requires room { vec_len vec.old + length source.now ≤ vec_capacity vec.old }
-    ensures items { vec.new.items ≡ vec.old.items ++ source.now }
-    ensures capacity { vec_capacity vec.new ≡ vec_capacity vec.old }
+    requires room { vec_len bytes.old + length source.now ≤ vec_capacity bytes.old }
+    ensures items { bytes.new.items ≡ bytes.old.items ++ source.now }
+    ensures capacity { vec_capacity bytes.new ≡ vec_capacity bytes.old }
 {
+    let mut vec = take_vec(bytes);
     let len = vec.len();
     let last = source.len() - N;
     let mut done = 0;
     'copies: while done < last {
-        append_array::<N>(vec, array_at::<N>(source, done));
+        append_array::<N>(&mut vec, array_at::<N>(source, done));
         done += N;
     }
     vec.truncate(len + last);
-    append_array::<N>(vec, array_at::<N>(source, last));
+    append_array::<N>(&mut vec, array_at::<N>(source, last));
+    restore_vec(bytes, vec);
 }
 
 /// Removes and returns the last byte if it is ASCII; otherwise changes nothing. Unlike `truncate`, compares no
@@ -303,23 +327,6 @@ fn append_overlapping<const N: usize>(bytes: &mut Vec<u8>, source: &[u8])
     vec.truncate(len + rest);
     append_array::<N>(&mut vec, array_at::<N>(source, rest));
     restore_vec(bytes, vec);
-}
-
-/// Appends 128 to 192 bytes as the first 64, the next 64 and the last 64.
-#[inline(always)]
-fn append_up_to_192(vec: &mut Vec<u8>, source: &[u8])
-    requires least { 128 ≤ length source.now }
-    requires most { length source.now ≤ 192 }
-    requires room { vec_len vec.old + length source.now ≤ vec_capacity vec.old }
-    ensures items { vec.new.items ≡ vec.old.items ++ source.now }
-    ensures capacity { vec_capacity vec.new ≡ vec_capacity vec.old }
-{
-    let len = vec.len();
-    let last = source.len() - 64;
-    append_array::<64>(vec, array_at::<64>(source, 0));
-    append_array::<64>(vec, array_at::<64>(source, 64));
-    vec.truncate(len + last);
-    append_array::<64>(vec, array_at::<64>(source, last));
 }
 
 /// Appends `piece`.

@@ -1,7 +1,7 @@
 //! Reading packed bytes, and writing their last byte.
 #![tactic(auto, using(crate::proofs::PackedFacts::packed_facts))]
 
-ghost use Rattle.std.specs.Prelude.{◌≡◌, ◌+◌, ◌*◌, ◌^◌, ◌≤◌, ◌<◌, length, take, bit_or, nat_lt, if◌then◌else◌, IsTrue, ◌↔◌, MatchOption};
+ghost use Rattle.std.specs.Prelude.{◌≡◌, ◌+◌, ◌*◌, ◌^◌, ◌≤◌, ◌<◌, [], ◌∷◌, ◌++◌, length, take, bit_or, nat_lt, false, None, IfSome, OnSome, if◌then◌else◌, IsTrue, ◌↔◌, MatchOption};
 ghost use Rattle.std.specs.Str.{IsUtf8};
 ghost use Rattle.compact_repr.specs.Words.{INLINE_CAPACITY, text_of};
 ghost use Rattle.compact_repr.specs.Packed.{IsPackedFor, packed_len, packed_text, packed_bytes};
@@ -75,6 +75,45 @@ pub fn write_len(bytes: &mut [u8; 24], len: usize)
     if len < INLINE_CAPACITY {
         bytes[INLINE_CAPACITY - 1] = 192 + len as u8;
     }
+}
+
+/// Appends an ASCII byte to a text of less than 24 bytes. Returns whether it did. The last byte, for which the next edit
+/// waits, is raised by one, and the length is not encoded again. The 24th byte of a text then overwrites it.
+#[inline(always)]
+pub fn push_ascii(bytes: &mut [u8; 24], byte: u8) -> bool
+    requires packed { IsPackedFor bytes.old (packed_text bytes.old) }
+    requires ascii { byte < 128 }
+    ensures fits { IsTrue result ↔ (packed_len bytes.old + 1 ≤ INLINE_CAPACITY) }
+    ensures pushed { IsTrue result → IsPackedFor bytes.new (packed_text bytes.old ++ byte ∷ []) }
+    ensures full { result ≡ false → bytes.new ≡ bytes.old }
+{
+    let Some(len) = len_below_24(bytes) else {
+        return false;
+    };
+    bytes[INLINE_CAPACITY - 1] += 1;
+    bytes[len] = byte;
+    true
+}
+
+/// Removes and returns the last byte of a text of 1 to 23 bytes if it is ASCII; otherwise changes nothing. The last byte
+/// is lowered by one, and the length is not encoded again.
+#[inline(always)]
+pub fn pop_ascii(bytes: &mut [u8; 24]) -> Option<u8>
+    requires { IsPackedFor bytes.old (packed_text bytes.old) }
+    ensures popped { IfSome result (λ byte. packed_text bytes.old ≡ packed_text bytes.new ++ byte ∷ []) }
+    ensures packed { OnSome result (IsPackedFor bytes.new (packed_text bytes.new)) }
+    ensures others { result ≡ None → bytes.new ≡ bytes.old }
+{
+    let last = usize::from(bytes[INLINE_CAPACITY - 1]);
+    if last <= 192 || last > MAX_LAST_BYTE {
+        return None;
+    }
+    let byte = bytes[last - 193];
+    if !byte.is_ascii() {
+        return None;
+    }
+    bytes[INLINE_CAPACITY - 1] -= 1;
+    Some(byte)
 }
 
 /// Returns the last word with the length as its last byte, unless the text has 24 bytes.
