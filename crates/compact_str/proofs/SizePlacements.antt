@@ -1,9 +1,9 @@
 -- A value that is collected by appends.
-use Rattle.std.proofs.Common.{◌≡◌, ℕ, ◌+◌, ◌<◌, ◌≤◌, List, [], ◌++◌, refl, ap, ◌∙◌, arith, inl, inr}
+use Rattle.std.proofs.Common.{◌≡◌, true, ℕ, ◌+◌, ◌<◌, ◌≤◌, List, [], ◌++◌, refl, ap, sym, ◌∙◌, arith, inl, inr}
 use Rattle.std.proofs.lemmas.Grind.{common_steps}
 use Rattle.std.proofs.lemmas.Bool.{cases_lt}
 use Rattle.compact_repr.specs.Text.{size}
-use Rattle.compact_repr.specs.Value.{PlacedText, placed_text, heap}
+use Rattle.compact_repr.specs.Value.{Place, PlacedText, placed_text, is_heap_place, inline, heap, static}
 use Rattle.compact_repr.specs.Capacity.{Growth, inline_placement, room_to_append, PlacedFor, AllocatesFor}
 use Rattle.compact_str.specs.Room.{IsPlacedBySize}
 use Rattle.compact_text.proofs.Texts.{size-append}
@@ -42,3 +42,24 @@ by_size-empty = record { short = λ _. refl; long = λ h. absurd (omega (arith, 
 -- an append that allocates passes 24 bytes
 pub allocates-over : (v : PlacedText) (n : ℕ) → AllocatesFor v (room_to_append n) → 24 < size v.text + n
 allocates-over v n h = grind (arith, common_steps)
+
+heap-place : (p : Place) → is_heap_place p ≡ true → p ≡ heap
+heap-place heap e = refl
+heap-place inline e = grind arith
+heap-place static e = grind arith
+
+-- an empty value takes the buffer of a text, of the same capacity
+pub append-moved : (g : Growth) (v w : PlacedText) (n : ℕ) → v.text ≡ [] → is_heap_place v.placement.place ≡ true
+    → is_heap_place w.placement.place ≡ true → v.placement.capacity ≡ w.placement.capacity → size w.text ≡ n
+    → IsPlacedBySize w → PlacedFor g v w (room_to_append n)
+append-moved g v w n t p q c s f =
+    let a : v.placement.place ≡ heap = heap-place v.placement.place p in
+    let b : w.placement.place ≡ heap = heap-place w.placement.place q in
+    elim (cases_lt 24 (size w.text)) [
+      | inl k ↦ let within = (f.long k).1 in
+          let same : w.placement ≡ v.placement = λ i. record { place = (b ∙ sym a) i; capacity = (sym c) i } in
+          let none : size v.text ≡ 0 = ap size t in
+          grind (arith, common_steps)
+      | inr k ↦ let short : w.placement.place ≡ inline = ap (λ p. p.place) (f.short k) in
+          grind (arith, common_steps)
+    ]

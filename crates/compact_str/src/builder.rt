@@ -1,5 +1,5 @@
 //! A builder that collects short pieces on the stack before it appends them.
-ghost use Rattle.std.specs.Prelude.{◌≡◌, ◌<◌, [], ◌∷◌, ◌++◌, OnOk, OnErr, IfOk, IfSome};
+ghost use Rattle.std.specs.Prelude.{◌≡◌, ◌<◌, [], ◌∷◌, ◌++◌, false, IsTrue, OnOk, OnErr, IfOk, IfSome};
 ghost use Rattle.compact_str.specs.Words.{size, text_of, PlacedFor, room_to_append, INLINE_CAPACITY};
 ghost use Rattle.compact_str.specs.Room.{IsPlacedBySize};
 ghost use Rattle.compact_str.specs.Output.{AppendsUtf8};
@@ -26,6 +26,8 @@ pub const SHOWN: usize = 240;
 pub struct Builder<P: Policy, const N: usize> {
     value: PolicyString<P>,
     block: StackBuffer<N>,
+    // The capacity of an empty target, or 0.
+    target_capacity: usize,
     // Whether a piece failed in `write_str`: a `Display` may ignore that and continue.
     is_refused: bool,
 }
@@ -48,6 +50,7 @@ impl<P: Policy, const N: usize> Drop for Builder<P, N> {
         let Builder {
             value,
             block: _,
+            target_capacity: _,
             is_refused: _,
         } = self;
         drop(value);
@@ -64,8 +67,22 @@ impl<P: Policy, const N: usize> Builder<P, N> {
         Builder {
             value: PolicyString::default(alloc),
             block: StackBuffer::empty(),
+            target_capacity: 0,
             is_refused: false,
         }
+    }
+
+    /// Returns an empty builder of a text for `target`. If that is empty, a long text gets a buffer of the same capacity,
+    /// which `push_onto` then moves into it.
+    #[inline]
+    pub fn for_target(target: &PolicyString<P>) -> Self
+        ensures { result ≡ [] }
+    {
+        let mut builder = Self::new(target.allocator());
+        if target.is_empty() {
+            builder.target_capacity = target.capacity();
+        }
+        builder
     }
 
     /// Appends `text`.
@@ -140,7 +157,7 @@ impl<P: Policy, const N: usize> Builder<P, N> {
     }
 
     /// Appends the block to the value, and then pushes `text`. A value of a block below 1024 bytes is temporary, so more
-    /// is reserved: up to 1024 bytes in all, or one block after a long text.
+    /// is reserved: up to 1024 bytes in all, or one block after a long text, unless the target's capacity will do.
     #[cold]
     #[inline(never)]
     fn push_str_slow(&mut self, text: &str) -> Result<(), ReserveError>
@@ -148,12 +165,26 @@ impl<P: Policy, const N: usize> Builder<P, N> {
         ensures err { OnErr result (INLINE_CAPACITY < size (self.old ++ text_of text.now)) }
     {
         let more = COLLECTED.saturating_sub(N);
-        push_or_reserve(&mut self.value, self.block.as_str(), more)?;
+        let len = self.block.as_str().len().saturating_add(text.len());
+        let (first, then) = match self.spare_of_target(len) {
+            Some(spare) => (spare.saturating_add(text.len()), spare),
+            None => (more, more.min(N)),
+        };
+        push_or_reserve(&mut self.value, self.block.as_str(), first)?;
         self.block.clear();
         if self.block.try_push_str(text) {
             return Ok(());
         }
-        push_or_reserve(&mut self.value, text, more.min(N))
+        push_or_reserve(&mut self.value, text, then)
+    }
+
+    /// Returns the target's capacity less `len`, the bytes so far, if they are at least half of it.
+    fn spare_of_target(&self, len: usize) -> Option<usize> {
+        let spare = self.target_capacity.checked_sub(len)?;
+        if spare > len {
+            return None;
+        }
+        Some(spare)
     }
 
     /// Returns the string. Takes `&mut self`, since moving would copy the buffer; the builder must not be used again.
@@ -167,12 +198,15 @@ impl<P: Policy, const N: usize> Builder<P, N> {
         ensures place { IfOk result IsPlacedBySize }
         ensures err { OnErr result (INLINE_CAPACITY < size self.old) }
     {
+        if self.value.is_empty() {
+            return PolicyString::new(self.value.allocator(), self.block.as_str());
+        }
         self.value.push_str(self.block.as_str())?;
         let nothing = PolicyString::default(self.value.allocator());
         Ok(mem::replace(&mut self.value, nothing))
     }
 
-    /// Appends the text to `target`, all at once.
+    /// Appends the text to `target`, all at once. An empty target with as large a buffer takes the builder's.
     ///
     /// # Errors
     ///
@@ -190,8 +224,32 @@ impl<P: Policy, const N: usize> Builder<P, N> {
             return target.push_str(self.block.as_str());
         }
         self.value.push_str(self.block.as_str())?;
+        if move_to_empty(&mut self.value, target) {
+            return Ok(());
+        }
         target.push_str(self.value.as_str())
     }
+}
+
+/// Moves `value` into an empty `target` with as large a buffer. Returns whether it did; otherwise changes nothing.
+#[tactic(auto, using(crate::proofs::CollectFacts::target_facts))]
+fn move_to_empty<P: Policy>(value: &mut PolicyString<P>, target: &mut PolicyString<P>) -> bool
+    requires { IsPlacedBySize value.old }
+    ensures text { IsTrue result → target.new.text ≡ target.old.text ++ value.old.text }
+    ensures place { IsTrue result
+        → PlacedFor P.growth target.old target.new (room_to_append (size value.old.text)) }
+    ensures left { IsTrue result → IsPlacedBySize value.new }
+    ensures others { result ≡ false → (value.new ≡ value.old) × (target.new ≡ target.old) }
+{
+    if !target.is_empty() || target.capacity() != value.capacity() {
+        return false;
+    }
+    if !target.is_heap_allocated() || !value.is_heap_allocated() {
+        return false;
+    }
+    let nothing = PolicyString::default(value.allocator());
+    *target = mem::replace(value, nothing);
+    true
 }
 
 impl<P: Policy, const N: usize> fmt::Write for Builder<P, N> {

@@ -63,6 +63,27 @@ fn more_than_1024_bytes_are_written(rt: HostRuntime) {
 }
 
 #[test]
+fn a_cleared_line_keeps_its_capacity_until_a_text_exceeds_it(rt: HostRuntime) {
+    let rt = &rt;
+    let alloc = rt.alloc();
+    let mut line = CompactString::with_capacity(alloc, 400).expect(rt, "memory");
+    for len in [125, 200] {
+        let text = short(alloc, "é").repeat(len).expect(rt, "memory");
+        write!(line, "{text}").expect(rt, "memory");
+        assert_that!(rt, is_heap(&line, 400, text.as_str()));
+        line.clear();
+    }
+    write!(line, "{:>398}é", 7).expect(rt, "memory");
+    assert_equal!(rt, (line.len(), line.capacity(), line.find("7é")), (400, 400, Some(397)));
+    line.clear();
+    write!(line, "é{:>399}", 7).expect(rt, "memory");
+    assert_equal!(rt, (line.len(), line.capacity(), line.find('7')), (401, 401, Some(400)));
+    line.clear();
+    assert_equal!(rt, line.write(Half), Err(ReserveError));
+    assert_that!(rt, is_heap(&line, 401, ""));
+}
+
+#[test]
 fn a_write_that_fails_by_itself_changes_nothing(rt: HostRuntime) {
     let rt = &rt;
     let alloc = rt.alloc();
