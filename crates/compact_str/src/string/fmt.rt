@@ -77,7 +77,8 @@ impl<P: Policy> fmt::Write for PolicyString<P> {
 impl<P: Policy> PolicyString<P> {
     /// Appends what `value` displays, all of it or nothing, with the capacity of one `push_str`.
     ///
-    /// Formats on the stack first, and past 240 bytes in a temporary heap buffer.
+    /// Formats on the stack first, and past 240 bytes in a temporary heap buffer. An empty string with as large a buffer
+    /// takes that one over.
     ///
     /// # Errors
     ///
