@@ -31,18 +31,6 @@ pub with_capacity_placement-room : (g : Growth) (p : Placement) (m k : ℕ) → 
     → k ≤ m → IsTrue (not (is_static_place p.place) && nat_le k p.capacity)
 with_capacity_placement-room g p m k e h = grind (arith, common_steps)
 
--- i copies of t have room for one more
-pub next_copy : (g : Growth) (v : PlacedText) (t : List ℕ) (bytes i n : ℕ) → size t ≡ bytes
-    → with_capacity_placement g (bytes * n) ≡ Some v.placement → v.text ≡ repeated_text i t → i + 1 ≤ n
-    → IsTrue (fits_in_place v bytes) × (v.text ++ t ≡ repeated_text (i + 1) t)
-next_copy g v t bytes i n wide e is within =
-    let more : bytes * (i + 1) ≤ bytes * n = mul-le-mul_left bytes within in
-    let filled : size v.text ≡ bytes * i = ap size is ∙ rw (← wide) (size-repeated_text i t) in (
-      with_capacity_placement-room g v.placement (bytes * n) (size v.text + bytes) e
-          (omega (arith, more, filled, mul-add bytes i 1)),
-      ap (λ x. x ++ t) is ∙ ap (λ x. repeated_text i t ++ x) (sym (append-nil t)) ∙ sym (repeated_text-add i 1 t),
-    )
-
 -- i copies of t have room for k more, which are copies of the first k
 pub next_copies : (g : Growth) (v : PlacedText) (t : List ℕ) (bytes i k n : ℕ) → size t ≡ bytes
     → with_capacity_placement g (bytes * n) ≡ Some v.placement → v.text ≡ repeated_text i t → k ≤ i → i + k ≤ n

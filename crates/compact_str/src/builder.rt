@@ -192,7 +192,7 @@ impl<P: Policy, const N: usize> Builder<P, N> {
     /// # Errors
     ///
     /// [`ReserveError`] if allocation fails. Never fails up to 24 bytes.
-    #[inline]
+    #[inline(always)]
     pub fn finish(&mut self) -> Result<PolicyString<P>, ReserveError>
         ensures text { IfOk result (λ v. v.text ≡ self.old) }
         ensures place { IfOk result IsPlacedBySize }

@@ -74,10 +74,18 @@ fn a_cleared_line_keeps_its_capacity_until_a_text_exceeds_it(rt: HostRuntime) {
         line.clear();
     }
     write!(line, "{:>398}é", 7).expect(rt, "memory");
-    assert_equal!(rt, (line.len(), line.capacity(), line.find("7é")), (400, 400, Some(397)));
+    assert_equal!(
+        rt,
+        (line.len(), line.capacity(), line.find("7é")),
+        (400, 400, Some(397))
+    );
     line.clear();
     write!(line, "é{:>399}", 7).expect(rt, "memory");
-    assert_equal!(rt, (line.len(), line.capacity(), line.find('7')), (401, 401, Some(400)));
+    assert_equal!(
+        rt,
+        (line.len(), line.capacity(), line.find('7')),
+        (401, 401, Some(400))
+    );
     line.clear();
     assert_equal!(rt, line.write(Half), Err(ReserveError));
     assert_that!(rt, is_heap(&line, 401, ""));

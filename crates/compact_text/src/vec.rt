@@ -45,18 +45,18 @@ pub fn try_append_char(bytes: &mut Vec<u8>, character: char) -> bool
     ensures capacity { vec_capacity bytes.new ≡ vec_capacity bytes.old }
     ensures full { result ≡ false → bytes.new ≡ bytes.old }
 {
-    if !character.is_ascii() {
-        if bytes.capacity() - bytes.len() < 4 {
+    if character.is_ascii() {
+        if bytes.len() == bytes.capacity() {
             return false;
         }
-        let (piece, len) = encoded(character);
-        append_front(bytes, piece, len);
+        bytes.push_reserved(character as u8);
         return true;
     }
-    if bytes.len() == bytes.capacity() {
+    if bytes.capacity() - bytes.len() < 4 {
         return false;
     }
-    bytes.push_reserved(character as u8);
+    let (piece, len) = encoded(character);
+    append_front(bytes, piece, len);
     true
 }
 

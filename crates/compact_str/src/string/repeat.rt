@@ -7,9 +7,6 @@ use crate::error::ReserveError;
 use crate::string::PolicyString;
 use compact_repr::Policy;
 
-/// The copies that are appended one by one: a copy within a buffer takes longer.
-const MOST_PUSHED: usize = 8;
-
 impl<P: Policy> PolicyString<P> {
     /// Returns the text repeated `count` times, in one buffer. `repeat(1)` is a clone; an empty result is inline.
     ///
@@ -49,8 +46,7 @@ impl<P: Policy> PolicyString<P> {
         Ok(all)
     }
 
-    /// Appends `piece` `count` times to an empty string with room for them all: the first ones one by one, and then doubles
-    /// what is there.
+    /// Appends `piece` `count` times to an empty string with room for them all. Doubles what is there.
     fn append_copies(&mut self, piece: &str, count: usize)
         requires some { 0 < count }
         requires empty { self.old.text ≡ [] }
@@ -59,16 +55,12 @@ impl<P: Policy> PolicyString<P> {
         ensures { self.new
             ≡ placed_text (repeated_text count (text_of piece.now)) self.old.placement }
     {
-        let first = count.min(MOST_PUSHED);
-        let mut done = 0;
-        'pushes: while done < first {
-            match self.push_str(piece) {
-                Ok(()) => {}
-                Err(_) => unreachable!(),
-            }
-            done += 1;
+        match self.push_str(piece) {
+            Ok(()) => {}
+            Err(_) => unreachable!(),
         }
-        'doubling: while done < count {
+        let mut done = 1;
+        while done < count {
             let more = done.min(count - done);
             match self.repr.push_within(0, piece.len() * more) {
                 Ok(()) => {}
