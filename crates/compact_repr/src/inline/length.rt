@@ -57,9 +57,9 @@ pub fn len_below_24(bytes: &[u8; 24]) -> Option<usize>
     ensures { MatchOption result (packed_len bytes.now ≡ INLINE_CAPACITY)
         (λ n. (n ≡ packed_len bytes.now) × (n < INLINE_CAPACITY)) }
 {
-    let len = usize::from(bytes[INLINE_CAPACITY - 1]).wrapping_sub(192);
-    if len < INLINE_CAPACITY {
-        Some(len)
+    let count = usize::from(bytes[INLINE_CAPACITY - 1]).wrapping_sub(192);
+    if count < INLINE_CAPACITY {
+        Some(count)
     } else {
         None
     }
