@@ -2,7 +2,7 @@
 use Rattle.std.proofs.Common.{◌≡◌, ℕ, zero, suc, ◌+◌, ◌<◌, ◌≤◌, ◌⊎◌, true, false, cond, List, [], ◌∷◌, length, take}
 use Rattle.std.proofs.Common.{drop, Option, Some, None, slice_index, IsUtf8, encode_utf8, refl, sym, ap, subst, ◌∙◌}
 use Rattle.std.proofs.Common.{arith, inl, inr, ⊎_elim, true≢false, append-nil, length-drop, take_all, take-add, min}
-use Rattle.std.proofs.Common.{◌-◌, take-append-drop, drop-drop, take_at, le_refl, not, leb, get_or}
+use Rattle.std.proofs.Common.{◌-◌, ◌&&◌, Bool, ◌++◌, encode_utf8_all, take-append-drop, drop-drop, take_at, le_refl, not, leb, get_or}
 use Rattle.std.specs.Prelude.{◌==◌, nat_lt, IsNone}
 use Rattle.std.specs.Int.{is_in_range}
 use Rattle.std.specs.Str.{is_utf8, IsAscii}
@@ -11,7 +11,7 @@ use Rattle.std.specs.Str.Lossy.{error_len_after_one, error_len_of_some}
 use Rattle.std.proofs.lemmas.Bool.{cases_Bool, cases_lt, cond-true, cond-false, cond_both, eqb-true, ltb-true}
 use Rattle.std.proofs.lemmas.Bool.{ltb-false, and_from, leb-false, not-true}
 use Rattle.std.proofs.lemmas.Bool.Decides.{nat_tests}
-use Rattle.std.proofs.lemmas.Str.{IsUtf8-from_is_utf8, is_utf8-from_IsUtf8, IsUtf8-append, IsUtf8-drop, IsAscii-append}
+use Rattle.std.proofs.lemmas.Str.{IsUtf8-nil, IsUtf8-from_is_utf8, is_utf8-from_IsUtf8, IsUtf8-append, IsUtf8-drop, IsAscii-append}
 use Rattle.std.proofs.lemmas.Str.{IsAscii-take, IsUtf8-from_ascii, IsCharBoundary-from_take, length-encode}
 use Rattle.std.proofs.lemmas.Str.{len_utf8_bounds}
 use Rattle.std.proofs.lemmas.List.{length-take, length-take-le, drop-take, take-take, get_or-take, get_or_past}
@@ -20,7 +20,7 @@ use Rattle.std.specs.List.{prefix_len}
 use Rattle.compact_codec.specs.Utf8Table.{trailing_bytes, IsInByteRange, IsWellFormedSequence}
 use Rattle.compact_codec.specs.InvalidSequence.{IsLongestValidPrefix, IsPrefixOfSequence, IsUnconvertible}
 use Rattle.compact_codec.specs.InvalidSequence.{IsMaximalSubpart, IsErrorLen, IsUtf8Error, Utf8ErrorIsUnique}
-use Rattle.compact_codec.proofs.Rows.{character-IsWellFormedSequence}
+use Rattle.compact_codec.proofs.Rows.{character-IsWellFormedSequence, IsWellFormedSequence-encode}
 use Rattle.compact_codec.proofs.Beginnings.{Leads, follows, one_begins, two_begin, three_begin, one_from, two_from}
 use Rattle.compact_codec.proofs.Beginnings.{three_from, four_from}
 
@@ -326,6 +326,38 @@ error_is bs n part bad = (
             (λ k. IsErrorLen (drop k bs) (utf8_error_len (drop k bs))) (sym are.0) std.1),
       ),
 )
+
+-- a byte that begins no character is an invalid sequence of its own
+
+first_of_sequence : (l more bs : List ℕ) (b : ℕ) → IsWellFormedSequence l → l ++ more ≡ b ∷ bs → (b ≤ 0x7F) ⊎ Leads b
+first_of_sequence [] more bs b well is = absurd (omega (arith, length-IsWellFormedSequence [] well))
+first_of_sequence (a ∷ l) more bs b well is =
+    one_from b (l, subst (λ x. IsWellFormedSequence (x ∷ l)) (ap (λ bytes. get_or bytes 0 0) is) well)
+
+first_of_text : (b : ℕ) (bs : List ℕ) → IsUtf8 (b ∷ bs) → (b ≤ 0x7F) ⊎ Leads b
+first_of_text b bs ([], x) = absurd (omega (arith, ap length x.1))
+first_of_text b bs (c ∷ cs, x) =
+    first_of_sequence (encode_utf8 c) (encode_utf8_all cs) bs b (IsWellFormedSequence-encode c (and_first _ _ x.0)) x.1
+  where
+    and_first : (p q : Bool) → (p && q) ≡ true → p ≡ true
+    and_first true q both = refl
+    and_first false q both = both
+
+-- the first byte is one
+pub first_is_refused : (bs : List ℕ) → 1 ≤ length bs
+    → (128 ≤ slice_index bs 0) × (is_in_range 0xC2 0xF4 (slice_index bs 0) ≡ false)
+    → IsUtf8Error bs 0 (Some 1)
+first_is_refused [] some high = absurd (omega arith)
+first_is_refused (b ∷ bs) some high =
+    let alone = not_leads_from b high.1 in
+    let prefix : IsLongestValidPrefix (b ∷ bs) 0 =
+    record { within = omega arith; prefix = IsUtf8-nil; longest = longer alone } in
+    (prefix, one_byte (b ∷ bs) some (unconvertible_after_prefix (b ∷ bs) 0 prefix) (inl alone))
+  where
+    longer : ¬ (Leads b) → (m : ℕ) → 0 < m → m ≤ length (b ∷ bs) → ¬ (IsUtf8 (take m (b ∷ bs)))
+    longer alone zero above within text = absurd (omega arith)
+    longer alone (suc m) above within text =
+        ⊎_elim (λ ascii. absurd (omega (arith, high.0))) alone (first_of_text b (take m bs) text)
 
 -- an error after a valid prefix
 

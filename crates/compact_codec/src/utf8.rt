@@ -1,5 +1,6 @@
 //! Bytes read as UTF-8 (Unicode Standard, 3.9).
-ghost use Rattle.std.specs.Prelude.{◌≡◌, ◌↔◌, ◌+◌, ◌<◌, ◌≤◌, ◌++◌, take, length, IsTrue, IsUtf8};
+ghost use Rattle.std.specs.Prelude.{◌≡◌, ◌↔◌, ◌+◌, ◌<◌, ◌≤◌, ◌++◌, take, length, false, IsTrue, IsUtf8};
+ghost use Rattle.std.specs.Int.{is_in_range};
 ghost use Rattle.std.specs.Str.{IsAscii};
 ghost use Rattle.compact_text.specs.Text.{text_of};
 ghost use Rattle.compact_codec.specs.Utf8Table.{TableIsTheEncodings};
@@ -227,7 +228,13 @@ fn char_start_before(bytes: &[u8], at: usize) -> usize
 fn validate_to_error(bytes: &[u8]) -> Result<&str, Utf8Error>
     ensures { Validates bytes.now result }
 {
-    if bytes.len() < BLOCK_LEN || !may_begin_character(bytes[0]) {
+    if !bytes.is_empty() && begins_no_character(bytes[0]) {
+        return Err(Utf8Error {
+            valid_up_to: 0,
+            error_len: Some(1),
+        });
+    }
+    if bytes.len() < BLOCK_LEN {
         return validate_in_order(bytes);
     }
     let letters = ascii_len(bytes);
@@ -238,10 +245,12 @@ fn validate_to_error(bytes: &[u8]) -> Result<&str, Utf8Error>
     validate_in_windows(bytes, at, BLOCK_LEN)
 }
 
-/// Returns `false` for a continuation byte, and for a byte that is in no text.
+/// Returns `true` for a continuation byte, and for a byte that is in no text.
 #[inline]
-fn may_begin_character(byte: u8) -> bool {
-    byte < 0x80 || 0xC2 <= byte && byte <= 0xF4
+fn begins_no_character(byte: u8) -> bool
+    ensures { IsTrue result → (128 ≤ byte) × (is_in_range 0xC2 0xF4 byte ≡ false) }
+{
+    byte >= 0x80 && (byte < 0xC2 || byte > 0xF4)
 }
 
 /// Returns the length of the ASCII prefix of the first block.

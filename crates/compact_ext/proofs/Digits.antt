@@ -146,15 +146,6 @@ last-steps n p h none one =
     (λ (high : 100 ≤ n). rw (one high) (omega arith, omega arith, omega arith))
     (cases_lt n 100)
 
-last-count : (n : ℕ) → n < 10000 → length (decimal n) ≤ 4
-last-count n h = length-decimal-le 4 n (omega arith) (omega arith) (omega arith)
-
-pub last-fits : (n : ℕ) → n < 10000 → le_number (decimal n) < 2 ^ 32
-last-fits n h =
-    let most = pow_mono {i = 8 * length (decimal n)} {j = 32} (omega (arith, last-count n h)) in
-    let below = digits-fit n (omega arith) in
-    omega arith
-
 append-two : (n c : ℕ) → n < 10000 → 100 ≤ n → c ≡ length (decimal (n / 100))
     → le_number (decimal n) ≡ le_number (two_digits (n % 100)) * 2 ^ (8 * c) + le_number (decimal (n / 100))
 append-two n c h high e = rw e (ap le_number (decimal_pair n high (omega arith))

@@ -21,7 +21,7 @@ use Rattle.compact_str.specs.Value.{PlacedText}
 use Rattle.compact_text.proofs.Texts.{length-utf8}
 use Rattle.compact_ext.specs.declared.wire.WireError.{WireError}
 use Rattle.compact_ext.specs.declared.wire.WireError.TheVariants.{TooLong, UnexpectedEnd, Utf8, Io, WriteZero, Reserve}
-use Rattle.compact_ext.specs.Wire.{wire, claimed_len, WritesFront, IsWriterFault, WriteFails, IsUnfinished, IsReadFault}
+use Rattle.compact_ext.specs.Wire.{wire, claimed_len, WritesFront, IsUnfinished, IsReadFault}
 use Rattle.compact_ext.specs.Wire.{ReadFails, IsStop, StopsBelow, TextFails, IsOutsideForm, ReadsBack, FormHasOneText}
 
 -- valid bytes decode to a text
@@ -30,19 +30,9 @@ made-text bytes t is same = subst IsText (sym same) (scalars-chars bytes is)
 
 pub ruleset read_text_facts = (text_facts, made-text)
 
-pub IfOk-join : {A E : Type 0} (P Q S : A → Type 0) (r : Result A E) → ((a : A) → P a → Q a → S a) → IfOk r P
-    → IfOk r Q → IfOk r S
-IfOk-join P Q S (Ok a) f h k = f a h k
-IfOk-join P Q S (Err e) f h k = tt
-
 pub IfErr-map : {A E : Type 0} (P Q : E → Type 0) (r : Result A E) → ((e : E) → P e → Q e) → IfErr r P → IfErr r Q
 IfErr-map P Q (Ok a) f h = tt
 IfErr-map P Q (Err e) f h = f e h
-
-pub IfErr-join : {A E : Type 0} (P Q S : E → Type 0) (r : Result A E) → ((e : E) → P e → Q e → S e) → IfErr r P
-    → IfErr r Q → IfErr r S
-IfErr-join P Q S (Ok a) f h k = tt
-IfErr-join P Q S (Err e) f h k = f e h k
 
 -- a prefix of the front, or the front and a prefix of the rest, is a prefix of both
 pub front-first : (old new : Option (List ℕ)) (head tail : List ℕ) → WritesFront old new head
@@ -66,11 +56,6 @@ front-second old mid new head tail h w = record {
 }
 
 pub ruleset front_facts = (front-first, front-second)
-
-pub write-fails : (old new : Option (List ℕ)) (t : List ℕ) (e : WireError) → size t < 2 ^ 32
-    → WritesFront old new (wire t) → IsWriterFault e → WriteFails old new t e
-write-fails old new t TooLong h w f = absurd f
-write-fails old new t e h w f = (h, w, f)
 
 -- an error of reading some bytes is one of reading more, of which some had come
 stop-more : (n len : ℕ) (new : Option (List ℕ)) (e : WireError) → n ≤ len → IsStop n new e → IsStop len new e
@@ -123,12 +108,6 @@ read-fails old mid new n Utf8 fits h s = record {
   bytes = Consumes-trans old mid new (to_le_bytes w32 n) s.taken_bytes h s.bytes;
   fault = (omega (arith, claimed n s.taken_bytes fits, s.all), s.broken);
 }
-
-pub takes-wire : (old mid new : Option (List ℕ)) (t : List ℕ) (n : ℕ) → Consumes old mid (to_le_bytes w32 n)
-    → Consumes mid new (utf8 t) → size t ≡ n → Consumes old new (wire t)
-takes-wire old mid new t n h c s =
-    subst (λ k. Consumes old new (to_le_bytes w32 k ++ utf8 t)) (sym s)
-    (Consumes-trans old mid new (to_le_bytes w32 n) (utf8 t) h c)
 
 pub length-wire : (t : List ℕ) → length (wire t) ≡ 4 + size t
 length-wire t = omega (arith, length-utf8 t)

@@ -1,10 +1,13 @@
--- Packed texts that get one ASCII character longer or shorter.
+-- Packed texts that get longer or shorter at their end, with the last byte written first.
 use Rattle.std.proofs.Common.{◌≡◌, ◌∙◌, ℕ, ◌+◌, ◌-◌, ◌<◌, ◌≤◌, List, [], ◌∷◌, ◌++◌, length, take, get_or, ap, sym, subst}
-use Rattle.std.proofs.Common.{arith, ⊎_elim}
+use Rattle.std.proofs.Common.{arith, ⊎_elim, drop, length-append}
 use Rattle.std.specs.Str.{IsUtf8}
 use Rattle.std.proofs.lemmas.Bool.{cases_lt}
 use Rattle.std.proofs.lemmas.List.{get_or-set_same, get_or-set_other, length-set, take-set-le, take_more, take_more_set}
+use Rattle.std.proofs.lemmas.List.{get_or-append_right, get_or-drop, length-take-le}
+use Rattle.std.proofs.lemmas.Str.{IsUtf8-append, chars-append}
 use lib.ListN.{set}
+use lib.Seq.{paste}
 use Rattle.compact_repr.specs.Words.{text_of}
 use Rattle.compact_repr.specs.Packed.{IsPackedFor, packed_len, packed_text}
 use Rattle.compact_text.proofs.CutLemmas.{text_of-last_ascii}
@@ -30,6 +33,40 @@ packs-pushed bytes n byte all short low u =
     ∙ get_or-set_same bytes 23 (192 + n + 1) 0 (omega arith) ∙ omega arith))
     (λ (full : 24 ≤ n + 1). packs-full now (n + 1) same (omega arith) v)
     (cases_lt (n + 1) 24))
+
+-- the last byte is written, and then a text after the text of n bytes, whose 24th byte overwrites it
+packs-appended : (bytes source now : List ℕ) (n : ℕ) → length bytes ≡ 24 → length now ≡ 24 → n < 24
+    → n + length source ≤ 24 → IsUtf8 (take n bytes) → IsUtf8 source
+    → now ≡ paste (set bytes 23 (192 + (n + length source))) n source (length source)
+    → take (n + length source) now ≡ take n (set bytes 23 (192 + (n + length source))) ++ source
+    → IsPackedFor now (text_of (take n bytes) ++ text_of source)
+packs-appended bytes source now n all whole short fits u v pasted appended =
+    let k : ℕ = length source in
+    let marked : List ℕ = set bytes 23 (192 + (n + k)) in
+    let same : length marked ≡ 24 = length-set bytes 23 (192 + (n + k)) ∙ all in
+    let front : take (n + k) now ≡ take n bytes ++ source =
+    appended ∙ ap (λ (l : List ℕ). l ++ source) (take-set-le n bytes 23 (192 + (n + k)) (omega arith)) in
+    let text : IsUtf8 (take (n + k) now) = subst IsUtf8 (sym front) (IsUtf8-append (take n bytes) source u v) in
+    let after : List ℕ = drop (n + k) marked in
+    let last : n + k < 24 → get_or now 23 0 ≡ 192 + (n + k) = λ below.
+    let front : length (take n marked ++ take k source) ≡ n + k = omega (
+      arith,
+      length-append (take n marked) (take k source),
+      length-take-le n marked (omega arith),
+      length-take-le k source (omega arith),
+    ) in
+    let place : n + k + (23 - (n + k)) ≡ 23 = omega arith in
+    subst (λ (l : List ℕ). get_or l 23 0 ≡ 192 + (n + k)) (sym pasted)
+    (get_or-append_right (take n marked ++ take k source) after (n + k) 23 0 front (omega arith)
+    ∙ get_or-drop (n + k) marked (23 - (n + k)) 0
+    ∙ ap (λ (i : ℕ). get_or marked i 0) place
+    ∙ get_or-set_same bytes 23 (192 + (n + k)) 0 (omega arith))
+    in
+    subst (IsPackedFor now) (ap text_of front ∙ chars-append (take n bytes) source u)
+    (⊎_elim
+    (λ (below : n + k < 24). packs-short now (n + k) whole below text (last below))
+    (λ (full : 24 ≤ n + k). packs-full now (n + k) whole (omega arith) text)
+    (cases_lt (n + k) 24))
 
 -- the last byte is lowered, after a text of i + 1 bytes that ends in an ASCII one
 packs-popped : (bytes : List ℕ) (i : ℕ) → length bytes ≡ 24 → i < 23 → get_or bytes i 0 < 128
@@ -57,6 +94,19 @@ packed-pushed bytes n byte all e short low p =
     (subst (λ (last : ℕ). IsPackedFor (set (set bytes 23 (last + 1)) k byte) t)
     (sym (length_below bytes (omega (arith, e, short))))
     (packs-pushed bytes k byte all (omega (arith, e, short)) low (packed-utf8 bytes (packed_text bytes) p)))
+
+pub packed-appended : {t : List ℕ} (bytes source now : List ℕ) (n : ℕ) → packed_text bytes ≡ t
+    → IsPackedFor bytes (packed_text bytes) → n ≡ packed_len bytes → length bytes ≡ 24 → length now ≡ 24 → n < 24
+    → n + length source ≤ 24 → IsUtf8 source
+    → now ≡ paste (set bytes 23 (192 + (n + length source))) n source (length source)
+    → take (n + length source) now ≡ take n (set bytes 23 (192 + (n + length source))) ++ source
+    → IsPackedFor now (t ++ text_of source)
+packed-appended bytes source now n text p len all whole short fits v pasted appended =
+    let front : text_of (take n bytes) ≡ packed_text bytes = ap (λ (m : ℕ). text_of (take m bytes)) len in
+    let u : IsUtf8 (take n bytes) = subst (λ (m : ℕ). IsUtf8 (take m bytes)) (sym len)
+    (packed-utf8 bytes (packed_text bytes) p) in
+    subst (λ (l : List ℕ). IsPackedFor now (l ++ text_of source)) (front ∙ text)
+    (packs-appended bytes source now n all whole short fits u v pasted appended)
 
 pub packed-popped : (bytes : List ℕ) (last : ℕ) → length bytes ≡ 24 → last ≡ get_or bytes 23 0 → 192 < last
     → last ≤ 215 → get_or bytes (last - 193) 0 < 128 → IsPackedFor bytes (packed_text bytes)

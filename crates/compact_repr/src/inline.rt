@@ -100,8 +100,10 @@ impl InlineBuffer {
         if text.len() > INLINE_CAPACITY - len {
             return false;
         }
-        slices::write_short(&mut self.bytes, len, text.as_bytes());
-        write_len(&mut self.bytes, len + text.len());
+        let source = text.as_bytes();
+        // Before the text, whose 24th byte overwrites it.
+        self.bytes[INLINE_CAPACITY - 1] = 192 + (len + source.len()) as u8;
+        slices::write_short(&mut self.bytes, len, source);
         true
     }
 

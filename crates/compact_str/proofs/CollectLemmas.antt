@@ -310,11 +310,6 @@ abbrev pub between : {T : Type 0} → List ℕ → List T → List ℕ
 between separator [] = []
 between separator (x ∷ xs) = separator
 
-pub between-next : {T : Type 0} (separator : List ℕ) (xs : List T) (x : T)
-    → between separator (xs ++ x ∷ []) ≡ separator
-between-next separator [] x = refl
-between-next separator (z ∷ zs) x = refl
-
 pub join-append : {T : Type 0} (f : T → List ℕ) (separator : List ℕ) (xs : List T) (y : T) (ys : List T)
     → join separator f (xs ++ y ∷ ys) ≡ (join separator f xs ++ between separator xs) ++ join separator f (y ∷ ys)
 join-append f separator [] y ys =

@@ -1,7 +1,6 @@
 -- Parts of a text, and their removal.
-use Rattle.std.proofs.Common.{◌≡◌, Some, ℕ, ◌+◌, ◌-◌, ◌*◌, ◌≤◌, List, [], ◌∷◌, ◌++◌, false, not, ◌&&◌, refl, ap, sym}
+use Rattle.std.proofs.Common.{◌≡◌, Some, ℕ, ◌+◌, ◌-◌, ◌*◌, ◌≤◌, List, [], ◌∷◌, ◌++◌, not, ◌&&◌, refl, ap, sym}
 use Rattle.std.proofs.Common.{◌∙◌, subst, arith, length, append_assoc, append-nil, length-append, ⊎_elim}
-use Rattle.std.proofs.lemmas.Grind.{common_steps}
 use Rattle.std.proofs.lemmas.Bool.{cases_Bool, cond-true, cond-false, eq-eqb, eqb-true, and_parts, and_from}
 use Rattle.std.proofs.lemmas.Str.{len_utf8_bounds}
 use Rattle.std.specs.Prelude.{nat_eq}
@@ -18,9 +17,6 @@ use Rattle.compact_repr.specs.declared.growth.Policy.{Ghosts}
 use Rattle.compact_str.specs.declared.string.drain.Drain.{Drain}
 use Rattle.compact_str.specs.Ranges.{AreRangeEnds}
 use Rattle.compact_str.specs.Drain.{drain_rest, value_after_drain, range_text, without_range}
-
-pub placed-owned : (g : Growth) (v u : PlacedText) → PlacedFor g v u owned → is_static_place u.placement.place ≡ false
-placed-owned g v u e = grind (arith, common_steps)
 
 -- the ends of a span are boundaries
 pub span-ends : (t : List ℕ) (i j : ℕ) → AreRangeEnds t i j → (i ≤ j) × IsBoundary t i × IsBoundary t j
@@ -186,5 +182,3 @@ pub ruleset owning_drain_facts = (text_facts, ends-span, drain-rest, drain-leave
 pub ruleset without_range_facts = (drain_facts, without_range-span)
 
 pub ruleset count_facts = (text_facts, length-least, length-most)
-
-pub ruleset owned_facts = (text_facts, placed-owned)

@@ -6,7 +6,6 @@ use Rattle.std.proofs.lemmas.Bool.{cases_lt, cond-true, le-leb}
 use Rattle.std.proofs.lemmas.Bool.Decides.{nat_tests}
 use Rattle.std.proofs.lemmas.Str.{encodes-append}
 use Rattle.std.specs.Char.{len_utf8, encode_utf8}
-use Rattle.std.specs.Prelude.{Result, Ok, Err, OnOk}
 use Rattle.std.specs.List.{insert_slice, remove_range}
 use Rattle.compact_repr.specs.Text.{size, utf8}
 use Rattle.compact_repr.specs.Cut.{IsCut, IsBoundary, IsCharAt, text_before, text_after, replaced_text}
@@ -83,11 +82,6 @@ pub text_after-replaced_text : (t : List ℕ) (start end : ℕ) → IsBoundary t
 text_after-replaced_text t start end h =
     ap (λ x. text_after (x ++ text_after t end) start) (append-nil (text_before t start))
     ∙ text_after-append (text_before t start) (text_after t end) start (size-text_before t start h)
-
--- what follows from a success
-pub on_ok : {E P Q : Type 0} (r : Result (Unit {0}) E) → (P → Q) → OnOk r P → OnOk r Q
-on_ok (Ok _) f p = f p
-on_ok (Err _) f p = tt
 
 -- the bytes of the two parts of a text at a boundary
 module _ (t : List ℕ) (p : ℕ) (h : IsBoundary t p) where

@@ -72,8 +72,8 @@ impl<P: Policy, const N: usize> Builder<P, N> {
         }
     }
 
-    /// Returns an empty builder of a text for `target`. If that is empty, a long text gets a buffer of the same capacity,
-    /// which `push_onto` then moves into it.
+    /// Returns an empty builder of a text for `target`. If that is empty, a long text that fits there and fills half of it
+    /// gets a buffer of the same capacity, which `push_onto` then moves into it.
     #[inline]
     pub fn for_target(target: &PolicyString<P>) -> Self
         ensures { result ≡ [] }
@@ -231,7 +231,8 @@ impl<P: Policy, const N: usize> Builder<P, N> {
     }
 }
 
-/// Moves `value` into an empty `target` with as large a buffer. Returns whether it did; otherwise changes nothing.
+/// Moves `value` into an empty `target` with as large a buffer, as if it were appended. Returns whether it did; otherwise
+/// changes nothing.
 #[tactic(auto, using(crate::proofs::CollectFacts::target_facts))]
 fn move_to_empty<P: Policy>(value: &mut PolicyString<P>, target: &mut PolicyString<P>) -> bool
     requires { IsPlacedBySize value.old }

@@ -2,6 +2,7 @@
 use Rattle.std.proofs.Common.{◌≡◌, ℕ, ◌+◌, ◌-◌, ◌≤◌, List, [], ◌∷◌, ◌++◌, length, take, drop, replicate, ap, sym}
 use Rattle.std.proofs.Common.{◌∙◌, arith, append_assoc}
 use Rattle.std.proofs.lemmas.List.{take-take, take_all, take-replicate, replicate-append-replicate}
+use Rattle.std.proofs.lemmas.List.{drop-append-le, take-append-le, drop-drop, length-drop}
 use Rattle.std.proofs.Math.Seq.{take-append-add, take-add}
 
 -- the first m bytes of the source are appended, truncated to k, and then its last n
@@ -36,3 +37,18 @@ zeros_within slice old len n e le within =
     ap (λ (j : ℕ). take j (slice ++ replicate n 0)) all
     ∙ take-append-add slice (replicate n 0) (len - old)
     ∙ ap (λ x. slice ++ x) (take-replicate (len - old) n 0 (omega arith))
+
+-- one more block of the list itself
+pub one_more_within : (slice : List ℕ) (start at n m : ℕ) → start ≤ at → at + n ≤ length slice → m ≡ at + n - start
+    → (slice ++ take (at - start) (drop start slice)) ++ take n (drop at (slice ++ take (at - start) (drop start slice)))
+    ≡ slice ++ take m (drop start slice)
+one_more_within slice start at n m order within e =
+    let k : ℕ = at - start in
+    let added : List ℕ = take k (drop start slice) in
+    let place : start + k ≡ at = omega arith in
+    let more : k + n ≡ m = omega (arith, e) in
+    let block : take n (drop at (slice ++ added)) ≡ take n (drop k (drop start slice)) =
+    ap (take n) (drop-append-le at slice added (omega arith))
+    ∙ take-append-le n (drop at slice) added (omega (arith, length-drop at slice))
+    ∙ ap (take n) (sym (drop-drop k start slice ∙ ap (λ (j : ℕ). drop j slice) place)) in
+    ap (λ (x : List ℕ). (slice ++ added) ++ x) block ∙ one_more slice (drop start slice) k n m more

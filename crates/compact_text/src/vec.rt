@@ -13,7 +13,7 @@ use std::mem;
 /// The block size.
 const BLOCK: usize = 32;
 
-/// The most bytes that are appended without a loop.
+/// The most bytes that are appended without a call of `memmove`.
 const MAX_UNROLLED: usize = 256;
 
 /// The block size above that.
@@ -261,7 +261,7 @@ fn insert_part<const N: usize>(bytes: &mut Vec<u8>, index: usize, source: &[u8])
 
 /// Appends zeros up to a length of `len` bytes: one block if that is enough and has room, otherwise one by one.
 #[inline(always)]
-pub fn append_zeros(bytes: &mut Vec<u8>, len: usize)
+fn append_zeros(bytes: &mut Vec<u8>, len: usize)
     requires longer { vec_len bytes.old ≤ len }
     requires room { len ≤ vec_capacity bytes.old }
     ensures items { bytes.new.items ≡ bytes.old.items ++ replicate (len - vec_len bytes.old) 0 }
@@ -305,9 +305,33 @@ pub fn append_within(bytes: &mut Vec<u8>, start: usize, end: usize)
         ≡ bytes.old.items ++ take (end - start) (drop start bytes.old.items) }
     ensures capacity { vec_capacity bytes.new ≡ vec_capacity bytes.old }
 {
-    let len = bytes.len();
-    append_zeros(bytes, len + (end - start));
-    bytes.as_mut_slice().copy_within(start..end, len);
+    let mut vec = take_vec(bytes);
+    let middle = append_blocks_within::<BLOCK>(&mut vec, start, end);
+    let last = append_blocks_within::<8>(&mut vec, middle, end);
+    append_blocks_within::<1>(&mut vec, last, end);
+    restore_vec(bytes, vec);
+}
+
+/// Appends the part from `start` to `end` in whole blocks of `N` bytes. Returns where the rest of it begins.
+#[inline(always)]
+fn append_blocks_within<const N: usize>(vec: &mut Vec<u8>, start: usize, end: usize) -> usize
+    requires some { 0 < N }
+    requires order { start ≤ end }
+    requires within { end ≤ vec_len vec.old }
+    requires room { vec_len vec.old + (end - start) ≤ vec_capacity vec.old }
+    ensures items { vec.new.items ≡ vec.old.items ++ take (result - start) (drop start vec.old.items) }
+    ensures len { vec_len vec.new ≡ vec_len vec.old + (result - start) }
+    ensures capacity { vec_capacity vec.new ≡ vec_capacity vec.old }
+    ensures most { (start ≤ result) × (result ≤ end) }
+    ensures rest { end - result < N }
+{
+    let mut at = start;
+    'copies: while N <= end - at {
+        let block = array_at::<N>(vec.as_slice(), at);
+        append_array::<N>(vec, block);
+        at += N;
+    }
+    at
 }
 
 /// Appends `source`, which has `N` to `2 * N` bytes, as its first `N` and its last `N`, without the overlap twice.

@@ -1,4 +1,4 @@
-//! Reading packed bytes, and writing their last byte.
+//! Packed bytes: reading them, writing the length, and an ASCII byte more or less.
 #![tactic(auto, using(crate::proofs::PackedFacts::packed_facts))]
 
 ghost use Rattle.std.specs.Prelude.{◌≡◌, ◌+◌, ◌*◌, ◌^◌, ◌≤◌, ◌<◌, [], ◌∷◌, ◌++◌, length, take, bit_or, nat_lt, false, None, IfSome, OnSome, if◌then◌else◌, IsTrue, ◌↔◌, MatchOption};

@@ -37,10 +37,13 @@ impl<P: Policy> Repr<P> {
             → self.new ≡ placed_text (self.old.text ++ character ∷ []) self.old.placement }
         ensures full { result ≡ false → self.new ≡ self.old }
     {
+        // Apart from the match, so that a static value is tested last.
+        if let Buffer::Heap(heap) = &mut self.buffer {
+            return heap.try_push(character);
+        }
         match &mut self.buffer {
             Buffer::Inline(_, inline) => inline.try_push(character),
-            Buffer::Heap(heap) => heap.try_push(character),
-            Buffer::Static(_) => false,
+            _ => false,
         }
     }
 

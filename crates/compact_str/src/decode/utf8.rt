@@ -76,7 +76,7 @@ impl PolicyString<Standard> {
     /// let name = CompactString::from_utf8_lossy(alloc, b"\xC0\x80")?;
     /// assert_eq!(rt; name.as_str(), "\u{FFFD}\u{FFFD}");
     /// ```
-    #[inline]
+    #[inline(always)]
     #[tactic(auto, using(compact_codec::proofs::ForDecoders::lossy_decoding_facts, crate::proofs::DecodedValues::new_facts))]
     pub fn from_utf8_lossy(alloc: Global, bytes: &[u8]) -> Result<CompactString, ReserveError>
         // Replaces each invalid sequence with U+FFFD: inline up to 24 bytes, else on the heap.
@@ -110,6 +110,7 @@ impl PolicyString<Standard> {
 }
 
 /// Converts invalid bytes, chunk by chunk, from their first error on.
+#[inline(never)]
 #[tactic(auto, using(compact_codec::proofs::ForDecoders::lossy_decoding_facts, crate::proofs::DecodedValues::decoded_part_facts))]
 fn decode_lossy(
     alloc: Global,

@@ -15,23 +15,3 @@ returns-clause-lossy c =
     let invalid_is = c.split_at-2.ensures.front ∙ (λ i. take (len_is i) (after_is i)) in
     let rest_is = c.split_at-2.ensures.back ∙ (λ i. drop (len_is i) (after_is i)) in
     whole ∙ (λ i. text_of (sym prefix_is i) ++ (replacement_text (sym invalid_is i) ++ utf8_lossy_text (sym rest_is i)))
-
-pub returns-clause-chunk : goal.returns-clause-chunk
-returns-clause-chunk c =
-    let error = c.args.error in
-    let chunk = (invalid_chunk c.args.bytes.now error.valid_up_to error.error_len c.requires).0 in
-    let prefix_is = c.from_utf8_unchecked.ensures ∙ c.split_at.ensures.front in
-    let after_is = c.split_at.ensures.back in
-    let len_is = c.unwrap_or-invalid_len.ensures ∙ ap (λ after. unwrap_or error.error_len (length after)) after_is in
-    let invalid_is = c.split_at-2.ensures.front ∙ (λ i. take (len_is i) (after_is i)) in
-    let rest_is = c.split_at-2.ensures.back ∙ (λ i. drop (len_is i) (after_is i)) in
-    rw (prefix_is, invalid_is, rest_is) chunk
-
-pub returns-clause-invalid : goal.returns-clause-invalid
-returns-clause-invalid c =
-    let error = c.args.error in
-    let some = (invalid_chunk c.args.bytes.now error.valid_up_to error.error_len c.requires).2 in
-    let after_is = c.split_at.ensures.back in
-    let len_is = c.unwrap_or-invalid_len.ensures ∙ ap (λ after. unwrap_or error.error_len (length after)) after_is in
-    let invalid_is = c.split_at-2.ensures.front ∙ (λ i. take (len_is i) (after_is i)) in
-    rw invalid_is some

@@ -1,6 +1,6 @@
 use Rattle.std.proofs.Common.{◌≡◌, ◌∷◌, ◌++◌, [], ◌∙◌, inr, refl, sym, append-nil, arith}
 use Rattle.std.proofs.lemmas.Grind.{common_steps}
-use Rattle.compact_uses.proofs.RecordLemmas.{left-first, reads-more, reads-all}
+use Rattle.compact_uses.proofs.RecordLemmas.{left-first, reads-more}
 use Rattle.compact_uses.proofs.records.read_records.Goals as goal
 
 pub loop-row-init : goal.loop-row-init
@@ -32,9 +32,3 @@ loop-row-preserved g c =
       left = step.3;
       read = reads-more _ _ _ _ _ inv.read rdr _ c.in_ok-row.field-0 _ step.0 step.1 c.in-Ok.ensures pushed;
     }
-
-pub returns-clause-ok : goal.returns-clause-ok
-returns-clause-ok g c =
-    let inv = c.loop-row.invariant in
-    let steps = (c.next.ensures.steps inv.left inv.read.trim).0 inv.read.ready in
-    reads-all _ _ _ _ _ inv.read c.next.new.self.rdr (rw c.in-None.is at steps)

@@ -1,17 +1,12 @@
 use Rattle.std.proofs.Common.{rules, Err}
 use Rattle.std.proofs.lemmas.Result.{err_from_is_err_and}
-use Rattle.compact_ext.proofs.WireLemmas.{IfOk-join, IfErr-map, read-fails, takes-wire, reads-back}
+use Rattle.compact_ext.proofs.WireLemmas.{IfErr-map, read-fails, reads-back}
 use Rattle.compact_ext.proofs.wire.read.read_wire.Goals as goal
 
 pub returns-in_err-len-clause-back : goal.returns-in_err-len-clause-back
 returns-in_err-len-clause-back g c =
     let (error, is, same) = err_from_is_err_and c.from_residual.result c.from_residual.ensures.1 in
     rw (is, same) (reads-back _ _ (Err c.in_err-len.field-0.0) tt tt c.in_err-len.ensures.err)
-
-pub returns-then-len-le-INLINE_CAPACITY-clause-consumed : goal.returns-then-len-le-INLINE_CAPACITY-clause-consumed
-returns-then-len-le-INLINE_CAPACITY-clause-consumed g c =
-    IfOk-join _ _ _ c.read_short.result (λ v took size. takes-wire _ _ _ v.text _ c.in_ok-len.ensures.consumed took
-    size) c.read_short.ensures.consumed c.read_short.ensures.len
 
 pub returns-then-len-le-INLINE_CAPACITY-clause-err : goal.returns-then-len-le-INLINE_CAPACITY-clause-err
 returns-then-len-le-INLINE_CAPACITY-clause-err g c =
@@ -20,12 +15,7 @@ returns-then-len-le-INLINE_CAPACITY-clause-err g c =
 
 pub returns-then-len-le-INLINE_CAPACITY-clause-back : goal.returns-then-len-le-INLINE_CAPACITY-clause-back
 returns-then-len-le-INLINE_CAPACITY-clause-back g c =
-    reads-back _ _ c.read_short.result (returns-then-len-le-INLINE_CAPACITY-clause-consumed g c) (search rules) (returns-then-len-le-INLINE_CAPACITY-clause-err g c)
-
-pub returns-else-len-le-INLINE_CAPACITY-clause-consumed : goal.returns-else-len-le-INLINE_CAPACITY-clause-consumed
-returns-else-len-le-INLINE_CAPACITY-clause-consumed g c =
-    IfOk-join _ _ _ c.read_long.result (λ v took size. takes-wire _ _ _ v.text _ c.in_ok-len.ensures.consumed took
-    size) c.read_long.ensures.consumed c.read_long.ensures.len
+    reads-back _ _ c.read_short.result (search rules) (search rules) (returns-then-len-le-INLINE_CAPACITY-clause-err g c)
 
 pub returns-else-len-le-INLINE_CAPACITY-clause-err : goal.returns-else-len-le-INLINE_CAPACITY-clause-err
 returns-else-len-le-INLINE_CAPACITY-clause-err g c =
@@ -34,4 +24,4 @@ returns-else-len-le-INLINE_CAPACITY-clause-err g c =
 
 pub returns-else-len-le-INLINE_CAPACITY-clause-back : goal.returns-else-len-le-INLINE_CAPACITY-clause-back
 returns-else-len-le-INLINE_CAPACITY-clause-back g c =
-    reads-back _ _ c.read_long.result (returns-else-len-le-INLINE_CAPACITY-clause-consumed g c) (search rules) (returns-else-len-le-INLINE_CAPACITY-clause-err g c)
+    reads-back _ _ c.read_long.result (search rules) (search rules) (returns-else-len-le-INLINE_CAPACITY-clause-err g c)

@@ -1,7 +1,7 @@
-use Rattle.std.proofs.Common.{◌∙◌, arith}
+use Rattle.std.proofs.Common.{◌∙◌}
 use Rattle.compact_text.proofs.RetainLemmas.{utf8-pushed, text_of-pushed}
 use Rattle.compact_repr.proofs.PackedTexts.{packed-text, packed-again}
-use Rattle.compact_repr.proofs.PackedEdits.{len-seen, utf8-seen}
+use Rattle.compact_repr.proofs.PackedEdits.{utf8-seen}
 use Rattle.compact_repr.proofs.inline.InlineBuffer.try_push.Goals as goal
 
 pub write_len-requires-clause-text : goal.write_len-requires-clause-text
@@ -11,17 +11,6 @@ write_len-requires-clause-text c =
 
 pub invariant_of-self-2 : goal.invariant_of-self-2
 invariant_of-self-2 c = packed-again _ _ c.write_len.ensures
-
-pub returns-clause-fits : goal.returns-clause-fits
-returns-clause-fits c _ =
-    omega (
-      arith,
-      len-seen _ c.self.view_is c.self.invariant,
-      c.in-Some.ensures.0,
-      c.in-Some-try_write_char.ensures.end,
-      c.in-Some-try_write_char.ensures.within,
-      c.self.told,
-    )
 
 pub returns-clause-pushed : goal.returns-clause-pushed
 returns-clause-pushed c _ =

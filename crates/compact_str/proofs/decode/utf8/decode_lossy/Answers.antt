@@ -1,5 +1,5 @@
 use Rattle.std.proofs.Common.{rules, ◌<◌, length}
-use Rattle.compact_str.proofs.DecodedValues.{chunk-read, part-refused}
+use Rattle.compact_str.proofs.DecodedValues.{chunk-read}
 use Rattle.compact_str.proofs.decode.utf8.decode_lossy.Goals as goal
 
 pub loop-made-preserved : goal.loop-made-preserved
@@ -11,8 +11,3 @@ loop-made-preserved c =
           c.in_ok-push_or_reserve.ensures.text c.in_ok-push_or_reserve-2.ensures.text;
       whole = c.first_chunk-chunk.ensures.whole;
     }
-
-pub returns-in_err-push_or_reserve : goal.returns-in_err-push_or_reserve
-returns-in_err-push_or_reserve c =
-    part-refused _ _ _ c.loop-made.chunk.valid.now _ c.from_residual.ensures.0 c.loop-made.invariant.text
-    (search rules) c.in_err-push_or_reserve.ensures.allocates

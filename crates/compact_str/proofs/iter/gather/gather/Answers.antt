@@ -4,7 +4,7 @@ use Rattle.std.proofs.Math.Seq.{drop-nil}
 use Rattle.compact_repr.specs.Text.{text_of}
 use Rattle.compact_str.specs.Collect.{join}
 use Rattle.compact_text.proofs.Texts.{size-text_of}
-use Rattle.compact_str.proofs.CollectLemmas.{between-next, join-next, later, finished}
+use Rattle.compact_str.proofs.CollectLemmas.{later, finished}
 use Rattle.compact_str.proofs.iter.gather.gather.Goals as goal
 
 pub loop-piece-init : goal.loop-piece-init
@@ -39,21 +39,6 @@ returns-then-not-try_push_to_block g c =
     ) refl))
     ended.ok ended.err in
     record { ok = all.0; place = ended.place; err = all.1 }
-
-pub loop-piece-preserved : goal.loop-piece-preserved
-loop-piece-preserved g c =
-    let i = c.loop-piece.invariant in
-    let separator = text_of c.args.separator.now in (
-      c.utf8.separator,
-      rw (
-        c.try_push_to_block.ensures.pushed c.if-not-try_push_to_block.false,
-        c.try_push_str.ensures.pushed c.if-not-try_push_str.false,
-        i.1,
-        i.2,
-      )
-          (sym (join-next g.T.Element.text separator c.loop-piece.yielded c.in-Some.piece)),
-      sym (between-next separator c.loop-piece.yielded c.in-Some.piece),
-    )
 
 pub returns : goal.returns
 returns g c =

@@ -1,4 +1,4 @@
-use Rattle.std.proofs.Common.{◌++◌, ◌∷◌, sym}
+use Rattle.std.proofs.Common.{◌++◌, ◌∷◌}
 use Rattle.compact_repr.specs.Text.{text_of}
 use Rattle.compact_str.specs.Collect.{join}
 use Rattle.compact_str.proofs.CollectLemmas.{on_err, passes, join-more, finished}
@@ -15,12 +15,6 @@ returns-in_err-push_separated-2-clause-err g c =
       join-more before g.T.Element.text separator c.args.first c.loop-piece.yielded c.in-Some.piece,
       ← c.loop-piece.invariant,
     ) c.in_err-push_separated-2.ensures.err))
-
-pub loop-piece-preserved : goal.loop-piece-preserved
-loop-piece-preserved g c =
-    rw (c.in_ok-push_separated-2.ensures.ok, c.loop-piece.invariant)
-    (sym (join-more (text_of c.args.start.now ++ text_of c.args.between.now) g.T.Element.text
-    (text_of c.args.separator.now) c.args.first c.loop-piece.yielded c.in-Some.piece))
 
 pub returns : goal.returns
 returns g c =

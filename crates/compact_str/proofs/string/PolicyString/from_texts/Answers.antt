@@ -8,12 +8,6 @@ returns-clause-text g c =
     (flat_map g.T.AsText.text) (λ xs. refl) c.collect_elements.result
     c.collect_elements.ensures.ok c.collect_elements.ensures.place c.collect_elements.ensures.err).text
 
-pub returns-clause-succeeds : goal.returns-clause-succeeds
-returns-clause-succeeds g c =
-    (collected g.U.IntoIterator.into_iter_gives g.U.IntoIter.Iterator.next_gives g.T.AsText.text _
-    (flat_map g.T.AsText.text) (λ xs. refl) c.collect_elements.result
-    c.collect_elements.ensures.ok c.collect_elements.ensures.place c.collect_elements.ensures.err).succeeds
-
 pub returns-clause-size : goal.returns-clause-size
 returns-clause-size g c =
     collected-size g.U.IntoIterator.into_iter_gives g.U.IntoIter.Iterator.next_gives g.T.AsText.text _

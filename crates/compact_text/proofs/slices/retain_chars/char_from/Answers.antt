@@ -27,9 +27,6 @@ returns-clause-width c =
       ap length c.as_str.ensures,
     )
 
-pub returns-clause-least : goal.returns-clause-least
-returns-clause-least c = omega (arith, returns-clause-width c, (len_utf8_bounds c.in-Some.character).0)
-
 pub returns-clause-most : goal.returns-clause-most
 returns-clause-most c = omega (arith, returns-clause-width c, (len_utf8_bounds c.in-Some.character).1)
 

@@ -1,13 +1,7 @@
 -- The group has the digits of the number.
 use Rattle.std.proofs.Common.{arith, sym}
-use Rattle.compact_ext.proofs.Digits.{digits-fit, last-fits, last-group}
+use Rattle.compact_ext.proofs.Digits.{digits-fit, last-group}
 use Rattle.compact_ext.proofs.to_compact_string.digits.ShortText.prepend_first.Goals as goal
-
-pub overflow_add-group : goal.overflow_add-group
-overflow_add-group c =
-    let g = last-group _ _ _ c.pair.result c.pair-2.result c.requires.small c.count_pairs-pairs.ensures.none
-    c.count_pairs-pairs.ensures.one c.count_first-count.ensures.len c.pair.ensures c.pair-2.ensures in
-    omega (arith, g, last-fits c.args.n c.requires.small)
 
 pub prepend-requires-clause-group : goal.prepend-requires-clause-group
 prepend-requires-clause-group c =

@@ -1,5 +1,5 @@
 -- What is appended to an empty `String` is all that it has.
-use Rattle.std.proofs.Common.{ℕ, List, ◌++◌, ◌≡◌, [], ap, ◌∙◌, arith, flat_map, string_bytes}
+use Rattle.std.proofs.Common.{ℕ, List, ◌++◌, ◌≡◌, [], ap, ◌∙◌, flat_map, string_bytes}
 use Rattle.std.proofs.lemmas.Str.{chars-nil}
 use Rattle.compact_repr.specs.Text.{text_of}
 use Rattle.compact_str.specs.Order.{text_in}
@@ -23,8 +23,3 @@ returns-in-Err-clause-allocates g c =
     let empty : text_of (string_bytes c.new-line.result) ≡ [] = ap text_of c.new-line.ensures.bytes ∙ chars-nil in
     stopped-gives g.U.IntoIterator.into_iter_gives g.U.IntoIter.Iterator.next_gives text_in c.args.values _ _ _ empty
     c.in-Err.ensures.err
-
-pub returns-in-Err-clause-succeeds : goal.returns-in-Err-clause-succeeds
-returns-in-Err-clause-succeeds g c =
-    let (it, becomes, (xs, t, yields, some)) = returns-in-Err-clause-allocates g c in
-    λ none. absurd (omega (arith, none it becomes xs t yields, some))

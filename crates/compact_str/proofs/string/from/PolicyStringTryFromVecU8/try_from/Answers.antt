@@ -1,7 +1,6 @@
 -- Invalid bytes are returned with their error.
-use Rattle.std.proofs.Common.{rules, sym}
+use Rattle.std.proofs.Common.{sym}
 use Rattle.std.proofs.lemmas.Bool.{true≢false}
-use Rattle.std.proofs.lemmas.Str.{IsUtf8-string_bytes}
 use Rattle.std.specs.Str.{IsUtf8}
 use Rattle.std.specs.String.{from_utf8_error_cause}
 use Rattle.compact_str.proofs.DecodingLemmas.{std-error}
@@ -18,9 +17,3 @@ returns-in-Err g c =
         std-error bytes (from_utf8_error_cause c.in-Err.error) bad got.valid_len got.fault,
       ),
     )
-
-pub returns-in-Ok : goal.returns-in-Ok
-returns-in-Ok g c =
-    let text = IsUtf8-string_bytes c.in-Ok.text in
-    let same = c.in-Ok.ensures.ok in
-    search rules
