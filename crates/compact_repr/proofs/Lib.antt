@@ -4,7 +4,7 @@ pub mod PlacementLemmas
 pub mod ByteOrder
 pub mod PackedArrays
 pub mod PackedTexts
-pub mod PackedAscii
+pub mod PackedEnds
 pub mod PackedEdits
 pub mod PackedFacts
 pub mod PackedOrder

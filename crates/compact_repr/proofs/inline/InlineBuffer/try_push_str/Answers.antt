@@ -1,7 +1,7 @@
 use Rattle.std.proofs.Common.{arith, ◌∙◌, ap, ◌++◌}
 use Rattle.compact_repr.specs.Words.{text_of}
 use Rattle.compact_repr.proofs.PackedTexts.{packed-text, packed-again}
-use Rattle.compact_repr.proofs.PackedAscii.{packed-appended}
+use Rattle.compact_repr.proofs.PackedEnds.{packed-appended}
 use Rattle.compact_repr.proofs.inline.InlineBuffer.try_push_str.Goals as goal
 
 pub invariant_of-self : goal.invariant_of-self

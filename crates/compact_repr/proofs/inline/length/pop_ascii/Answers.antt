@@ -1,6 +1,6 @@
 use Rattle.std.proofs.Common.{arith}
 use Rattle.std.proofs.lemmas.Bool.Decides.{nat_tests}
-use Rattle.compact_repr.proofs.PackedAscii.{packed-popped}
+use Rattle.compact_repr.proofs.PackedEnds.{packed-popped}
 use Rattle.compact_repr.proofs.inline.length.pop_ascii.Goals as goal
 
 pub returns-clause-popped : goal.returns-clause-popped

@@ -1,5 +1,5 @@
 use Rattle.std.proofs.Common.{arith}
-use Rattle.compact_repr.proofs.PackedAscii.{packed-pushed}
+use Rattle.compact_repr.proofs.PackedEnds.{packed-pushed}
 use Rattle.compact_repr.proofs.inline.length.push_ascii.Goals as goal
 
 pub returns-clause-pushed : goal.returns-clause-pushed

@@ -1,4 +1,4 @@
--- Packed texts that get longer or shorter at their end, with the last byte written first.
+-- Edits at the end of a packed text: an ASCII character more or less, or a text more. The last byte is written first.
 use Rattle.std.proofs.Common.{◌≡◌, ◌∙◌, ℕ, ◌+◌, ◌-◌, ◌<◌, ◌≤◌, List, [], ◌∷◌, ◌++◌, length, take, get_or, ap, sym, subst}
 use Rattle.std.proofs.Common.{arith, ⊎_elim, drop, length-append}
 use Rattle.std.specs.Str.{IsUtf8}
