@@ -31,7 +31,7 @@ def slow_rows():
         for line in figures:
             words = line.split()
             if line.startswith("Nanoseconds"):
-                is_call = line.rstrip().endswith("a call")
+                is_call = "of a call" in line
             elif is_call and len(words) == 9 and words[2].isdigit() and float(words[7]) > LIMIT:
                 rows.append((words[0], words[1], words[2], float(words[7])))
     return rows
