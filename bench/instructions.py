@@ -63,7 +63,9 @@ def main():
         table.write("Rows above 1.25 of the better peer's time, and the instructions of one operation\n\n")
         table.write(f"{'row':30}{'time':>6}{'String':>10}{'Rust crate':>12}{'CompactString':>15}{'to better':>11}\n")
         for row, (string, crate, ours) in sorted(zip(rows, counts), key=lambda one: (one[0][0], -one[0][3])):
-            table.write(f"{' '.join(row[:3]):30}{row[3]:6.2f}{string:10.0f}{crate:12.0f}{ours:15.0f}{ours / min(string, crate):11.2f}\n")
+            # A peer without the call runs nothing.
+            better = min(count for count in (string, crate) if count > 0)
+            table.write(f"{' '.join(row[:3]):30}{row[3]:6.2f}{string:10.0f}{crate:12.0f}{ours:15.0f}{ours / better:11.2f}\n")
 
 
 if __name__ == "__main__":
