@@ -38,6 +38,7 @@ def slow_rows():
 
 
 def instructions(program, row, place, count):
+    """Returns the instructions of a whole run with `count` operations over a type."""
     told = subprocess.run(
         ["valgrind", "--tool=callgrind", "--callgrind-out-file=/dev/null", program, "once", "/".join(row[:3]), str(place), str(count)],
         capture_output=True, text=True, check=False).stderr
