@@ -95,17 +95,15 @@ packed-pushed bytes n byte all e short low p =
     (sym (length_below bytes (omega (arith, e, short))))
     (packs-pushed bytes k byte all (omega (arith, e, short)) low (packed-utf8 bytes (packed_text bytes) p)))
 
-pub packed-appended : {t : List ℕ} (bytes source now : List ℕ) (n : ℕ) → packed_text bytes ≡ t
-    → IsPackedFor bytes (packed_text bytes) → n ≡ packed_len bytes → length bytes ≡ 24 → length now ≡ 24 → n < 24
-    → n + length source ≤ 24 → IsUtf8 source
+pub packed-appended : (bytes source now : List ℕ) (n : ℕ) → IsPackedFor bytes (packed_text bytes)
+    → n ≡ packed_len bytes → length bytes ≡ 24 → length now ≡ 24 → n < 24 → n + length source ≤ 24 → IsUtf8 source
     → now ≡ paste (set bytes 23 (192 + (n + length source))) n source (length source)
     → take (n + length source) now ≡ take n (set bytes 23 (192 + (n + length source))) ++ source
-    → IsPackedFor now (t ++ text_of source)
-packed-appended bytes source now n text p len all whole short fits v pasted appended =
-    let front : text_of (take n bytes) ≡ packed_text bytes = ap (λ (m : ℕ). text_of (take m bytes)) len in
+    → IsPackedFor now (packed_text bytes ++ text_of source)
+packed-appended bytes source now n p len all whole short fits v pasted appended =
     let u : IsUtf8 (take n bytes) = subst (λ (m : ℕ). IsUtf8 (take m bytes)) (sym len)
     (packed-utf8 bytes (packed_text bytes) p) in
-    subst (λ (l : List ℕ). IsPackedFor now (l ++ text_of source)) (front ∙ text)
+    subst (λ (l : List ℕ). IsPackedFor now (l ++ text_of source)) (ap (λ (m : ℕ). text_of (take m bytes)) len)
     (packs-appended bytes source now n all whole short fits u v pasted appended)
 
 pub packed-popped : (bytes : List ℕ) (last : ℕ) → length bytes ≡ 24 → last ≡ get_or bytes 23 0 → 192 < last

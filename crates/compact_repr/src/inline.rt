@@ -13,7 +13,9 @@ mod length;
 
 use compact_text::slices::{self, Case};
 use compact_text::str_parts::split_last;
-use length::{decode_len, is_packed, len_below_24, pack, pop_ascii, push_ascii, write_len};
+use length::{
+    decode_len, is_packed, len_below_24, pack, pop_ascii, push_ascii, push_text, write_len,
+};
 use std::marker::Model;
 
 /// The most bytes of an inline text.
@@ -88,23 +90,12 @@ impl InlineBuffer {
 
     /// Appends `text` if it fits. Returns whether it did; otherwise changes nothing.
     #[inline]
-    #[tactic(auto, using(crate::proofs::PackedFacts::packed_facts, compact_text::proofs::TextFacts::empty_facts))]
     pub fn try_push_str(&mut self, text: &str) -> bool
         ensures fits { IsTrue result ↔ (size self.old + length text.now ≤ INLINE_CAPACITY) }
         ensures pushed { IsTrue result → self.new ≡ self.old ++ text_of text.now }
         ensures full { result ≡ false → self.new ≡ self.old }
     {
-        let Some(len) = len_below_24(&self.bytes) else {
-            return text.is_empty();
-        };
-        if text.len() > INLINE_CAPACITY - len {
-            return false;
-        }
-        let source = text.as_bytes();
-        // Before the text, whose 24th byte overwrites it.
-        self.bytes[INLINE_CAPACITY - 1] = 192 + (len + source.len()) as u8;
-        slices::write_short(&mut self.bytes, len, source);
-        true
+        push_text(&mut self.bytes, text)
     }
 
     /// Appends `character` if it is ASCII and fits, or if four bytes are free. Returns whether it did; otherwise changes

@@ -1,4 +1,4 @@
-//! Packed bytes: reading them, writing the length, and an ASCII byte more or less.
+//! Packed bytes: reading them, writing the length, and appending and removing at the end.
 #![tactic(auto, using(crate::proofs::PackedFacts::packed_facts))]
 
 ghost use Rattle.std.specs.Prelude.{◌≡◌, ◌+◌, ◌*◌, ◌^◌, ◌≤◌, ◌<◌, [], ◌∷◌, ◌++◌, length, take, bit_or, nat_lt, false, None, IfSome, OnSome, if◌then◌else◌, IsTrue, ◌↔◌, MatchOption};
@@ -7,6 +7,7 @@ ghost use Rattle.compact_repr.specs.Words.{INLINE_CAPACITY, text_of};
 ghost use Rattle.compact_repr.specs.Packed.{IsPackedFor, packed_len, packed_text, packed_bytes};
 
 use crate::inline::INLINE_CAPACITY;
+use compact_text::slices;
 use compact_text::words::{
     array_of_words, first_23_are_ascii, last_byte, load_up_to_8, load8, second_word, third_word,
 };
@@ -75,6 +76,28 @@ pub fn write_len(bytes: &mut [u8; 24], len: usize)
     if len < INLINE_CAPACITY {
         bytes[INLINE_CAPACITY - 1] = 192 + len as u8;
     }
+}
+
+/// Appends `text` if it fits. Returns whether it did; otherwise changes nothing. The length is written first: the 24th
+/// byte of a text then overwrites it.
+#[inline(always)]
+#[tactic(auto, using(crate::proofs::PackedFacts::packed_facts, compact_text::proofs::TextFacts::empty_facts))]
+pub fn push_text(bytes: &mut [u8; 24], text: &str) -> bool
+    requires { IsPackedFor bytes.old (packed_text bytes.old) }
+    ensures fits { IsTrue result ↔ (packed_len bytes.old + length text.now ≤ INLINE_CAPACITY) }
+    ensures pushed { IsTrue result → IsPackedFor bytes.new (packed_text bytes.old ++ text_of text.now) }
+    ensures full { result ≡ false → bytes.new ≡ bytes.old }
+{
+    let Some(len) = len_below_24(bytes) else {
+        return text.is_empty();
+    };
+    if text.len() > INLINE_CAPACITY - len {
+        return false;
+    }
+    let source = text.as_bytes();
+    bytes[INLINE_CAPACITY - 1] = 192 + (len + source.len()) as u8;
+    slices::write_short(bytes, len, source);
+    true
 }
 
 /// Appends an ASCII byte to a text of less than 24 bytes. Returns whether it did. The last byte, for which the next edit
