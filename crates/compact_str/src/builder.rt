@@ -9,6 +9,7 @@ use crate::error::ReserveError;
 use crate::stack_buffer::{PaddedStr, StackBuffer};
 use crate::string::PolicyString;
 use compact_repr::Policy;
+use compact_text::slices::MAX_SHORT_LEN;
 use compact_text::str_parts::encode_char;
 use std::alloc::Global;
 use std::marker::Model;
@@ -26,21 +27,23 @@ pub const SHOWN: usize = 240;
 pub struct Builder<P: Policy, const N: usize> {
     value: PolicyString<P>,
     block: StackBuffer<N>,
-    // The capacity of an empty target, or 0.
-    target_capacity: usize,
+    // Whether a piece did not fit in the block. Until then the value is empty.
+    is_long: bool,
     // Whether a piece failed in `write_str`: a `Display` may ignore that and continue.
     is_refused: bool,
+    // The capacity of an empty target, or 0.
+    target_capacity: usize,
 }
 
 impl<P: Policy, const N: usize> Model for Builder<P, N> {
-    ghost use Rattle.std.specs.Prelude.{ℕ, List, ◌++◌};
+    ghost use Rattle.std.specs.Prelude.{◌≡◌, ℕ, List, [], ◌++◌, false};
     ghost use Rattle.compact_str.specs.Room.{IsPlacedBySize};
 
     ghost Value = { List ℕ };
 
     ghost view = { λ g. g.value.text ++ g.block };
 
-    ghost invariant = { λ g. IsPlacedBySize g.value };
+    ghost invariant = { λ g. IsPlacedBySize g.value × (g.is_long ≡ false → g.value.text ≡ []) };
 }
 
 /// A manual `Drop`: a derived one is expanded in the proof of every function that owns a builder.
@@ -50,8 +53,9 @@ impl<P: Policy, const N: usize> Drop for Builder<P, N> {
         let Builder {
             value,
             block: _,
-            target_capacity: _,
+            is_long: _,
             is_refused: _,
+            target_capacity: _,
         } = self;
         drop(value);
     }
@@ -67,8 +71,9 @@ impl<P: Policy, const N: usize> Builder<P, N> {
         Builder {
             value: PolicyString::default(alloc),
             block: StackBuffer::empty(),
-            target_capacity: 0,
+            is_long: false,
             is_refused: false,
+            target_capacity: 0,
         }
     }
 
@@ -164,6 +169,7 @@ impl<P: Policy, const N: usize> Builder<P, N> {
         ensures ok { OnOk result (self.new ≡ self.old ++ text_of text.now) }
         ensures err { OnErr result (INLINE_CAPACITY < size (self.old ++ text_of text.now)) }
     {
+        self.is_long = true;
         let more = COLLECTED.saturating_sub(N);
         let len = self.block.as_str().len().saturating_add(text.len());
         let (first, then) = match self.spare_of_target(len) {
@@ -176,6 +182,21 @@ impl<P: Policy, const N: usize> Builder<P, N> {
             return Ok(());
         }
         push_or_reserve(&mut self.value, text, then)
+    }
+
+    /// Appends a `text` that is not short or does not fit in the block, for `write_str`. Not inlined, so that a short piece
+    /// saves no registers.
+    #[inline(never)]
+    fn write_long(&mut self, text: &str) -> fmt::Result
+        ensures { OnOk result (self.new ≡ self.old ++ text_of text.now) }
+    {
+        match self.push_str(text) {
+            Ok(()) => Ok(()),
+            Err(ReserveError) => {
+                self.is_refused = true;
+                Err(fmt::Error)
+            }
+        }
     }
 
     /// Returns the target's capacity less `len`, the bytes so far, if they are at least half of it.
@@ -198,7 +219,7 @@ impl<P: Policy, const N: usize> Builder<P, N> {
         ensures place { IfOk result IsPlacedBySize }
         ensures err { OnErr result (INLINE_CAPACITY < size self.old) }
     {
-        if self.value.is_empty() {
+        if !self.is_long {
             return PolicyString::new(self.value.allocator(), self.block.as_str());
         }
         self.value.push_str(self.block.as_str())?;
@@ -211,7 +232,23 @@ impl<P: Policy, const N: usize> Builder<P, N> {
     /// # Errors
     ///
     /// [`ReserveError`] if allocation fails, or failed in `write_str`. `target` is then unchanged.
+    #[inline]
     pub fn push_onto(&mut self, target: &mut PolicyString<P>) -> Result<(), ReserveError>
+        ensures text { OnOk result (target.new.text ≡ target.old.text ++ self.old) }
+        ensures place { OnOk result
+            (PlacedFor P.growth target.old target.new (room_to_append (size self.old))) }
+        ensures err { OnErr result (target.new ≡ target.old) }
+    {
+        if self.is_long {
+            return self.push_onto_slow(target);
+        }
+        target.push_str(self.block.as_str())
+    }
+
+    /// The slow path of `push_onto`.
+    #[cold]
+    #[inline(never)]
+    fn push_onto_slow(&mut self, target: &mut PolicyString<P>) -> Result<(), ReserveError>
         ensures text { OnOk result (target.new.text ≡ target.old.text ++ self.old) }
         ensures place { OnOk result
             (PlacedFor P.growth target.old target.new (room_to_append (size self.old))) }
@@ -220,14 +257,13 @@ impl<P: Policy, const N: usize> Builder<P, N> {
         if self.is_refused {
             return Err(ReserveError);
         }
-        if self.value.is_empty() {
-            return target.push_str(self.block.as_str());
-        }
-        self.value.push_str(self.block.as_str())?;
-        if move_to_empty(&mut self.value, target) {
+        let empty = PolicyString::default(target.allocator());
+        let mut value = mem::replace(&mut self.value, empty);
+        value.push_str(self.block.as_str())?;
+        if move_to_empty(&mut value, target) {
             return Ok(());
         }
-        target.push_str(self.value.as_str())
+        target.push_str(value.as_str())
     }
 }
 
@@ -263,12 +299,9 @@ impl<P: Policy, const N: usize> fmt::Write for Builder<P, N> {
     /// `fmt::Error` if allocation fails.
     #[inline]
     fn write_str(&mut self, text: &str) -> fmt::Result {
-        match self.push_str(text) {
-            Ok(()) => Ok(()),
-            Err(ReserveError) => {
-                self.is_refused = true;
-                Err(fmt::Error)
-            }
+        if text.len() <= MAX_SHORT_LEN && self.block.try_push_str(text) {
+            return Ok(());
         }
+        self.write_long(text)
     }
 }
