@@ -1,30 +1,8 @@
 //! Tests of the callers in `lines_read.rt`.
 
 use compact_asserts::{assert_equal, assert_that};
-use compact_callers::lines_read::{first_line, longest_line, next_pair};
+use compact_callers::lines_read::{first_line, longest_line};
 use compact_testing::checks::is_inline;
-use compact_testing::values::short;
-
-#[test]
-fn pairs_of_lines_are_read(rt: HostRuntime) {
-    let rt = &rt;
-    let alloc = rt.alloc();
-    let mut reader: &[u8] = b"a\n1\n\xC3\xA9\n22";
-    let mut key = short(alloc, "old");
-    let mut value = short(alloc, "old");
-    assert_that!(
-        rt,
-        next_pair(&mut reader, &mut key, &mut value).expect(rt, "a pair"),
-    );
-    assert_that!(rt, is_inline(&key, "a\n") && is_inline(&value, "1\n"));
-    assert_that!(
-        rt,
-        next_pair(&mut reader, &mut key, &mut value).expect(rt, "a pair"),
-    );
-    assert_that!(rt, is_inline(&key, "é\n") && is_inline(&value, "22"));
-    let more = next_pair(&mut reader, &mut key, &mut value).expect(rt, "no pair");
-    assert_that!(rt, !more && is_inline(&key, ""));
-}
 
 #[test]
 fn the_longest_line_is_measured(rt: HostRuntime) {

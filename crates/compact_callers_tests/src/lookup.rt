@@ -1,13 +1,11 @@
 //! Tests of the callers in `lookup.rt`.
 
 use compact_asserts::{assert_equal, assert_that};
-use compact_callers::key::{set_count, set_rank};
-use compact_callers::lookup::{
-    count_by_text, forget, held_by_text, is_in_both, place_by_text, rank_by_text, total,
-};
+use compact_callers::key::set_count;
+use compact_callers::lookup::{forget, is_in_both, place_by_text, total};
 use compact_testing::values::short;
 use indexmap::IndexMap;
-use std::collections::{BTreeMap, BTreeSet, HashMap, HashSet};
+use std::collections::{BTreeSet, HashMap, HashSet};
 
 #[test]
 fn a_count_is_found_by_its_text(rt: HostRuntime) {
@@ -15,22 +13,9 @@ fn a_count_is_found_by_its_text(rt: HostRuntime) {
     let alloc = rt.alloc();
     let mut counts = HashMap::new(alloc);
     assert_that!(rt, set_count(&mut counts, short(alloc, "total"), 3).is_ok());
-    assert_equal!(rt, count_by_text(&counts, "total"), 3);
     assert_equal!(rt, total(&counts), 3);
-    assert_equal!(rt, count_by_text(&counts, "tota"), 0);
     forget(&mut counts, "total");
     assert_equal!(rt, total(&counts), 0);
-}
-
-#[test]
-fn a_rank_is_found_by_its_text(rt: HostRuntime) {
-    let rt = &rt;
-    let alloc = rt.alloc();
-    let mut ranks = BTreeMap::new(alloc);
-    assert_that!(rt, set_rank(&mut ranks, short(alloc, "b"), 2).is_ok());
-    assert_that!(rt, set_rank(&mut ranks, short(alloc, "é"), 3).is_ok());
-    assert_equal!(rt, rank_by_text(&ranks, "é"), 3);
-    assert_equal!(rt, rank_by_text(&ranks, "a"), 0);
 }
 
 #[test]
@@ -53,6 +38,5 @@ fn a_place_is_found_by_its_text(rt: HostRuntime) {
     assert_that!(rt, row.insert(short(alloc, "b"), 1).is_ok());
     assert_that!(rt, row.insert(short(alloc, "a"), 2).is_ok());
     assert_equal!(rt, place_by_text(&row, "a"), Some(1));
-    assert_equal!(rt, held_by_text(&row, "a"), 2);
     assert_equal!(rt, place_by_text(&row, "c"), None);
 }

@@ -5,8 +5,6 @@
 #[cfg(test)]
 mod formats;
 #[cfg(test)]
-mod number_values;
-#[cfg(test)]
 mod numbers;
 #[cfg(test)]
 mod read_line;

@@ -170,41 +170,6 @@ fn a_writer_that_fails_has_a_beginning(rt: HostRuntime) {
     }
 }
 
-#[test]
-fn an_empty_text_needs_four_bytes(rt: HostRuntime) {
-    let text = CompactString::default(rt.alloc());
-    let four: [u8; 4] = [0; 4];
-    assert_writes(&rt, &text, Narrow::new(4, 4, Stop::Never), "done", &four);
-    assert_writes(
-        &rt,
-        &text,
-        Narrow::new(4, 1, Stop::Pauses(5)),
-        "done",
-        &four,
-    );
-}
-
-#[test]
-fn texts_of_each_length_come_back(rt: HostRuntime) {
-    let rt = &rt;
-    let alloc = rt.alloc();
-    let mut bytes = Vec::new(alloc);
-    for count in 0..80 {
-        let sent = write_wire(
-            &value_of(alloc, ascii_text(count)).expect(rt, "memory"),
-            &mut bytes,
-        );
-        assert_that!(rt, sent.is_ok());
-    }
-    let mut rest = bytes.as_slice();
-    for count in 0..80 {
-        let text = read_wire(alloc, &mut rest).expect(rt, "a text");
-        assert_equal!(rt, text.as_str(), ascii_text(count));
-        assert_that!(rt, text.is_heap_allocated() == (count > 24));
-    }
-    assert_equal!(rt, rest.len(), 0);
-}
-
 /// Asserts the `Display` of a fault.
 fn assert_shown(rt: &impl Abort, alloc: Global, fault: WireError, text: &str) {
     let mut shown = CompactString::default(alloc);

@@ -4,7 +4,6 @@ use crate::wire_forms::{assert_writes, end_of, form_of_ascii};
 use compact_asserts::{assert_equal, assert_that};
 use compact_ext::wire::{Records, WireError, read_wire, write_wire};
 use compact_str::CompactString;
-use compact_testing::checks::is_at;
 use compact_testing::stopping_io::{Narrow, Pieces, Stop};
 use compact_testing::values::{ascii_text, value_of};
 use std::alloc::Global;
@@ -31,22 +30,6 @@ fn each_beginning_of_a_form_ends_too_early(rt: HostRuntime) {
     let long = form_of_ascii(rt, alloc, 30);
     assert_beginnings(rt, alloc, &long, 1);
     assert_beginnings(rt, alloc, &long, 5);
-}
-
-/// Asserts the place of a text of `count` bytes that is read byte by byte.
-fn assert_byte_by_byte(rt: &impl Abort, alloc: Global, count: u8, place: &str, capacity: usize) {
-    let form = form_of_ascii(rt, alloc, count);
-    let text = read_wire(alloc, &mut Pieces::new(&form, 1, Stop::Never)).expect(rt, "a text");
-    assert_that!(
-        rt,
-        is_at(&text, place, capacity, ascii_text(count as usize)),
-    );
-}
-
-#[test]
-fn a_text_is_read_byte_by_byte(rt: HostRuntime) {
-    assert_byte_by_byte(&rt, rt.alloc(), 24, "inline", 24);
-    assert_byte_by_byte(&rt, rt.alloc(), 25, "heap", 25);
 }
 
 /// Asserts that invalid bytes are reported once they are read, and what follows is not.

@@ -87,35 +87,6 @@ fn texts_are_in_this_order(rt: HostRuntime) {
     }
 }
 
-#[test]
-fn the_first_place_that_differs_decides_at_any_length(rt: HostRuntime) {
-    let rt = &rt;
-    let alloc = rt.alloc();
-    for count in 0..40 {
-        let mut less = value_of(alloc, ascii_text(count)).expect(rt, "memory");
-        let mut greater = value_of(alloc, ascii_text(count)).expect(rt, "memory");
-        assert_same(rt, &less, &greater);
-        append(&mut less, "\u{ffff}zz").expect(rt, "memory");
-        assert_less(rt, &greater, &less);
-        append(&mut greater, "\u{10000}").expect(rt, "memory");
-        assert_less(rt, &less, &greater);
-    }
-}
-
-#[test]
-fn a_value_hashes_as_its_str(rt: HostRuntime) {
-    let alloc = rt.alloc();
-    for count in 0..65 {
-        let text = ascii_text(count);
-        assert_equal!(
-            &rt,
-            hash_of(&value_of(alloc, text).expect(&rt, "memory")),
-            hash_of_str(text),
-        );
-        assert_equal!(&rt, hash_of(&lasting(alloc, count)), hash_of_str(text));
-    }
-}
-
 /// Draws the next number.
 fn next(state: &mut u64) -> u64 {
     *state = state

@@ -25,8 +25,6 @@ mod formatting;
 #[cfg(test)]
 mod long_texts;
 #[cfg(test)]
-mod moved_bytes;
-#[cfg(test)]
 mod one_byte_buf;
 #[cfg(test)]
 mod packed;
