@@ -5,7 +5,7 @@
 
 PROGRAM is the benchmark as `bench/run.sh FOLDER` has built it. For each row of docs/speed.txt that takes more than 1.25 of the
 time of the better peer it writes to docs/slow_rows.txt that ratio, the instructions of one operation over String, over the
-Rust crate's type and over CompactString, and their ratio to the better peer. Needs valgrind, and takes a few minutes.
+Rust crate's type and over CompactString, their ratio to the better peer, and a reason. Needs valgrind, and takes a few minutes.
 
 A row's instructions are the difference of two runs, so what makes the inputs is not counted. They are the same in each run,
 whatever else the machine does; time depends also on where the linker puts a loop, and on what waits for memory.
@@ -22,6 +22,28 @@ DOCS = os.path.join(BENCH, "..", "docs")
 # The types as the benchmark numbers them, and the most that a row may take.
 STRING, CRATE, OURS = 0, 1, 3
 LIMIT = 1.25
+# A row with at most this ratio of instructions is slow for another reason than what it does.
+ALIKE = 1.10
+REASONS = {
+    "alike": "at most 1.10 of the instructions: where the code lies, or what it waits for",
+    "place": "each call tests where the text is, inline, on the heap or static, and decodes an inline length",
+    "append": "the row first clears a value and appends a text, which tests the place twice; then as `place`",
+    "gather": "the length is not known before, so pieces are gathered in a block and then copied",
+    "blocks": "a part of the text is copied by blocks of 32, 8 and 1 bytes, or zeros are written before the bytes",
+    "kit": "a function of the kit: its comparison, its validation of short texts, its writer",
+    "setup": "what a decoder sets up, of which a short text pays more",
+    "faults": "each fault ends a validation, and the next one is set up",
+}
+CALLS = {
+    "place": "new clone clone_from to_text to_lowercase change_case hash into_string push extend retain",
+    "append": "refill truncate pop remove_first insert_remove push_str drain drain_front drain_back split_off replace_equal "
+              "replace_shorter extend_texts",
+    "gather": "concat join collect format write",
+    "blocks": "repeat insert_str replace_longer",
+    "kit": "eq cmp write_wire read_wire from_utf8 from_utf8_lossy from_utf8_buf",
+    "setup": "from_utf16 from_utf16_lossy from_utf16le from_utf16be from_utf16le_lossy",
+    "faults": "from_faulty_utf8",
+}
 
 
 def slow_rows():
@@ -55,6 +77,11 @@ def counted(program, row):
             for place in (STRING, CRATE, OURS)]
 
 
+def reason(call, ratio):
+    """Returns the name of the reason of a slow row."""
+    return "alike" if ratio <= ALIKE else next(name for name, calls in CALLS.items() if call in calls.split())
+
+
 def main():
     program = sys.argv[1] if len(sys.argv) > 1 else os.path.join(BENCH, "out", "target", "release", "bench")
     rows = slow_rows()
@@ -62,11 +89,15 @@ def main():
         counts = list(threads.map(lambda row: counted(program, row), rows))
     with open(os.path.join(DOCS, "slow_rows.txt"), "w", encoding="utf-8") as table:
         table.write("Rows above 1.25 of the better peer's time, and the instructions of one operation\n\n")
-        table.write(f"{'row':30}{'time':>6}{'String':>10}{'Rust crate':>12}{'CompactString':>15}{'to better':>11}\n")
+        table.write(f"{'row':30}{'time':>6}{'String':>10}{'Rust crate':>12}{'CompactString':>15}{'to better':>11}  reason\n")
         for row, (string, crate, ours) in sorted(zip(rows, counts), key=lambda one: (one[0][0], -one[0][3])):
             # A peer without the call runs nothing.
             better = min(count for count in (string, crate) if count > 0)
-            table.write(f"{' '.join(row[:3]):30}{row[3]:6.2f}{string:10.0f}{crate:12.0f}{ours:15.0f}{ours / better:11.2f}\n")
+            table.write(f"{' '.join(row[:3]):30}{row[3]:6.2f}{string:10.0f}{crate:12.0f}{ours:15.0f}{ours / better:11.2f}"
+                        f"  {reason(row[0], ours / better)}\n")
+        table.write("\nReasons, as read off the code\n\n")
+        for name, told in REASONS.items():
+            table.write(f"{name:8}{told}\n")
 
 
 if __name__ == "__main__":

@@ -2,7 +2,6 @@
 #![tactic(auto)]
 
 #[cfg(test)]
-#[cfg(test)]
 mod ranking;
 #[cfg(test)]
 mod records;

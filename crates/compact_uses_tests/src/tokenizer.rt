@@ -56,12 +56,3 @@ fn characters_of_each_width_are_cut_by_their_kind(rt: HostRuntime) {
     assert_names(rt, &names, &[(4, "éß字"), (6, "\u{a0}"), (7, "😀")]);
     assert_equal!(rt, names.len(), 9);
 }
-
-#[test]
-fn an_empty_text_has_no_tokens(rt: HostRuntime) {
-    let alloc = rt.alloc();
-    let mut names = Interner::new(alloc);
-    let tokens = tokens_of(&rt, alloc, &mut names, "");
-    assert_equal!(&rt, tokens.len(), 0);
-    assert_equal!(&rt, names.len(), 0);
-}
