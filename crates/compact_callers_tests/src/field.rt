@@ -1,9 +1,8 @@
 //! Tests of the callers in `field.rt`.
 
 use compact_asserts::{assert_equal, assert_that};
-use compact_callers::field::{read_name, read_person, write_person};
+use compact_callers::field::{read_person, write_person};
 use compact_testing::checks::is_inline;
-use compact_testing::values::short;
 
 /// A person with a name on the heap and no note.
 const WRITTEN: &str = r#"{"firstName":"zoë, of more than 24 bytes, on the heap","note":null}"#;
@@ -25,12 +24,4 @@ fn a_person_that_is_written_is_read_back(rt: HostRuntime) {
     assert_equal!(rt, written.as_str(), WRITTEN);
     let again = read_person(alloc, written.as_str()).expect(rt, "a person");
     assert_that!(rt, again == person);
-}
-
-#[test]
-fn a_name_is_a_text(rt: HostRuntime) {
-    let alloc = rt.alloc();
-    let name = read_name(alloc, r#""a\tb""#).expect(&rt, "a text");
-    assert_that!(&rt, name == short(alloc, "a\tb"));
-    assert_that!(&rt, read_name(alloc, "12").is_err());
 }

@@ -1,7 +1,8 @@
 //! Tests of the callers in `packed.rt`.
 
-use compact_asserts::assert_equal;
-use compact_callers::packed::cleaned;
+use compact_asserts::{assert_equal, assert_that};
+use compact_callers::packed::{cleaned, have_same_bytes};
+use compact_testing::values::short;
 
 #[test]
 fn spare_bytes_are_zeroed(rt: HostRuntime) {
@@ -14,4 +15,11 @@ fn spare_bytes_are_zeroed(rt: HostRuntime) {
         &clean,
         b"a\0\0\0\0\0\0\0\0\0\0\0\0\0\0\0\0\0\0\0\0\0\0\xC1",
     );
+}
+
+#[test]
+fn equal_keys_have_equal_bytes(rt: HostRuntime) {
+    let alloc = rt.alloc();
+    let key = short(alloc, "key");
+    assert_that!(&rt, have_same_bytes(&key, &short(alloc, "key")));
 }
