@@ -1,4 +1,6 @@
 //! Edits as in editors, reports and record readers.
+#![tactic(auto, using(compact_str::proofs::ForCallers::caller_facts))]
+
 ghost use Rattle.std.specs.Prelude.{◌≡◌, ◌+◌, ◌≤◌, [], ◌∷◌, ◌++◌, length, IfOk, OnOk, OnErr, IsOk, MatchOption, codes, decimal};
 ghost use Rattle.compact_str.specs.Text.{text_of, size};
 ghost use Rattle.compact_str.specs.Cut.{IsBoundary, replaced_text};
@@ -6,7 +8,6 @@ ghost use Rattle.compact_str.specs.Cut.{IsBoundary, replaced_text};
 use compact_str::{CompactString, ReserveError};
 
 /// Appends a name, an arrow and a value.
-#[tactic(auto, using(compact_str::proofs::ForCallers::caller_facts))]
 pub fn append_report(line: &mut CompactString, name: &str, value: &str) -> Result<(), ReserveError>
     ensures { OnOk result
         (line.new.text ≡ line.old.text ++ text_of name.now ++ codes " → " ++ text_of value.now) }
@@ -15,7 +16,6 @@ pub fn append_report(line: &mut CompactString, name: &str, value: &str) -> Resul
 }
 
 /// Appends a name, a colon and a number.
-#[tactic(auto, using(compact_str::proofs::ForCallers::caller_facts))]
 pub fn append_count(line: &mut CompactString, name: &str, count: u64) -> Result<(), ReserveError>
     ensures { OnOk result
         (line.new.text ≡ line.old.text ++ text_of name.now ++ codes ": " ++ decimal count) }
@@ -24,7 +24,6 @@ pub fn append_count(line: &mut CompactString, name: &str, count: u64) -> Result<
 }
 
 /// Appends two fields with a comma between them. Reserves first, so that it appends all or nothing.
-#[tactic(auto, using(compact_str::proofs::ForCallers::caller_facts))]
 pub fn append_record(
     line: &mut CompactString,
     first: &str,
@@ -41,7 +40,6 @@ pub fn append_record(
 }
 
 /// Appends two fields, and removes the first if the second fails.
-#[tactic(auto, using(compact_str::proofs::ForCallers::caller_facts))]
 pub fn append_pair(line: &mut CompactString, first: &str, second: &str) -> Result<(), ReserveError>
     ensures text { OnOk result
         (line.new.text ≡ line.old.text ++ text_of first.now ++ text_of second.now) }
@@ -57,7 +55,6 @@ pub fn append_pair(line: &mut CompactString, first: &str, second: &str) -> Resul
 }
 
 /// Types two characters at a cursor, which must be a boundary, and returns the new cursor.
-#[tactic(auto, using(compact_str::proofs::ForCallers::caller_facts))]
 pub fn type_two(
     line: &mut CompactString,
     cursor: usize,
@@ -96,7 +93,6 @@ pub fn with_suffix(name: &CompactString, suffix: &str) -> Result<CompactString, 
 
 /// Keeps the key of a `key=value` field and returns its value. Returns `None`, with the field unchanged, if it has no
 /// `=`.
-#[tactic(auto, using(compact_str::proofs::ForCallers::caller_facts))]
 pub fn split_field(field: &mut CompactString) -> Result<Option<CompactString>, ReserveError>
     ensures parts { IfOk result
         (λ value. MatchOption value (field.new ≡ field.old)
@@ -112,7 +108,6 @@ pub fn split_field(field: &mut CompactString) -> Result<Option<CompactString>, R
 }
 
 /// Appends a value with its `Display`.
-#[tactic(auto, using(compact_str::proofs::ForCallers::caller_facts))]
 pub fn append_value(line: &mut CompactString, value: &CompactString) -> Result<(), ReserveError>
     ensures { OnOk result (line.new.text ≡ line.old.text ++ value.now.text) }
 {

@@ -1,5 +1,7 @@
 //! Writing texts in the wire form and reading them. `first_record`, `read_texts`, `sent_and_received` and
 //! `pair_sent_and_received` need a proof file.
+#![tactic(auto, using(compact_ext::proofs::WireFacts::wire_facts))]
+
 ghost use Rattle.std.specs.Prelude.{◌≡◌, ◌⊎◌, ◌++◌, ◌∷◌, [], ℕ, List, Option, map, Some, IfOk, IfSome, OnOk, MatchOption, MatchResult, IsTrue};
 ghost use Rattle.std.specs.List.{All, flat_map};
 ghost use Rattle.std.specs.Io.{StartsWith};
@@ -16,7 +18,6 @@ use std::alloc::Global;
 use std::io::{BufRead, Read, Write};
 
 /// Writes a name, then a value.
-#[tactic(auto, using(compact_ext::proofs::WireFacts::wire_facts))]
 pub fn send_field<W: Write>(
     name: &CompactString,
     value: &CompactString,
@@ -31,7 +32,6 @@ pub fn send_field<W: Write>(
 }
 
 /// Reads a name and a value.
-#[tactic(auto, using(compact_ext::proofs::WireFacts::wire_facts))]
 pub fn receive_field<R: Read>(
     alloc: Global,
     reader: &mut R,
@@ -46,7 +46,6 @@ pub fn receive_field<R: Read>(
 }
 
 /// Writes a text into a vector and reads it back.
-#[tactic(auto, using(compact_ext::proofs::WireFacts::wire_facts))]
 pub fn sent_and_received(alloc: Global, text: &CompactString) -> Result<CompactString, WireError>
     ensures { IfOk result (λ back. back.text ≡ text.now.text) }
 {
@@ -57,7 +56,6 @@ pub fn sent_and_received(alloc: Global, text: &CompactString) -> Result<CompactS
 }
 
 /// Writes two texts into a vector and reads them back.
-#[tactic(auto, using(compact_ext::proofs::WireFacts::wire_facts))]
 pub fn pair_sent_and_received(
     alloc: Global,
     name: &CompactString,
@@ -73,7 +71,6 @@ pub fn pair_sent_and_received(
 }
 
 /// Reads the next record, or returns `None` at the end.
-#[tactic(auto, using(compact_ext::proofs::WireFacts::wire_facts))]
 pub fn next_record<R: BufRead>(
     alloc: Global,
     reader: &mut R,
@@ -90,7 +87,6 @@ pub fn next_record<R: BufRead>(
 }
 
 /// Returns `true` if a reader is at its end.
-#[tactic(auto, using(compact_ext::proofs::WireFacts::wire_facts))]
 fn is_at_end<R: BufRead>(reader: &mut R) -> Result<bool, WireError>
     ensures end { IfOk result (λ b. IsTrue b → IsAtEnd (R.remaining reader.old)) }
     ensures kept { Keeps (R.remaining reader.old) (R.remaining reader.new) }
@@ -102,7 +98,6 @@ fn is_at_end<R: BufRead>(reader: &mut R) -> Result<bool, WireError>
 }
 
 /// Reads the wire records until the end.
-#[tactic(auto, using(compact_ext::proofs::WireFacts::wire_facts))]
 pub fn read_records<R: BufRead + Drop>(
     alloc: Global,
     reader: R,
@@ -116,7 +111,6 @@ pub fn read_records<R: BufRead + Drop>(
 }
 
 /// Reads the first record, or returns `None` if there is none.
-#[tactic(auto, using(compact_ext::proofs::WireFacts::wire_facts))]
 pub fn first_record<R: BufRead + Drop>(
     alloc: Global,
     reader: R,
@@ -134,7 +128,6 @@ pub fn first_record<R: BufRead + Drop>(
 }
 
 /// Reads the next text, skipping one record that is not valid UTF-8.
-#[tactic(auto, using(compact_ext::proofs::WireFacts::wire_facts))]
 pub fn next_text<R: BufRead + Drop>(
     records: &mut Records<R>,
 ) -> Option<Result<CompactString, WireError>>

@@ -7,3 +7,4 @@ pub mod Utf16TextLemmas
 pub mod Utf16BytesLemmas
 pub mod WorkedExamples
 pub mod ForDecoders
+pub mod Facts

@@ -1,4 +1,6 @@
 //! 16-bit units read as UTF-16 (Unicode Standard, 3.9).
+#![tactic(auto, using(crate::proofs::Facts::utf16_facts))]
+
 ghost use Rattle.std.specs.Prelude.{◌≡◌, ◌↔◌, ◌+◌, ◌^◌, ◌<◌, ◌≤◌, ◌∷◌, ℕ, List, take, drop, length, unwrap_or, slice_get, slice_index, IsTrue};
 ghost use Rattle.compact_text.specs.Text.{replacement_character};
 ghost use Rattle.std.specs.Char.Utf16.{is_high_surrogate, is_low_surrogate};

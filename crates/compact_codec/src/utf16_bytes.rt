@@ -1,4 +1,6 @@
 //! Bytes read as UTF-16, two bytes a unit; a byte order mark is a character (Unicode Standard, 3.10).
+#![tactic(auto, using(crate::proofs::Facts::utf16_bytes_facts))]
+
 ghost use Rattle.std.specs.Prelude.{◌≡◌, ◌↔◌, ◌<◌, ℕ, slice_index, IsTrue};
 ghost use Rattle.compact_codec.specs.declared.utf16_bytes.ByteOrder.TheVariants.{LittleEndian, BigEndian};
 ghost use Rattle.compact_codec.specs.Utf16Bytes.{unit_of, units_of, IsUtf16Bytes, PairsAreTheUnits, Utf16BytesLossyTextIsUnique, Utf16BytesLossyTextOfText};
@@ -53,19 +55,16 @@ impl Units for LowFirst<'_> {
     ghost units = { λ s. units_of LittleEndian s.bytes.now };
 
     #[inline]
-    #[tactic(auto, using(crate::proofs::Utf16BytesLemmas::units_count))]
     fn len(self) -> usize {
         self.bytes.len() / 2
     }
 
     #[inline]
-    #[tactic(auto, using(crate::proofs::Utf16BytesLemmas::units_count))]
     fn unit(self, at: usize) -> u16 {
         ByteOrder::LittleEndian.code_unit(self.bytes[2 * at], self.bytes[2 * at + 1])
     }
 
     #[inline]
-    #[tactic(auto, using(crate::proofs::Utf16BytesLemmas::units_count))]
     fn block(self, at: usize) -> u16x16 {
         u16x16::from_le_bytes(u8x32::from_slice(&self.bytes[2 * at..]))
     }
@@ -92,19 +91,16 @@ impl Units for HighFirst<'_> {
     ghost units = { λ s. units_of BigEndian s.bytes.now };
 
     #[inline]
-    #[tactic(auto, using(crate::proofs::Utf16BytesLemmas::units_count))]
     fn len(self) -> usize {
         self.bytes.len() / 2
     }
 
     #[inline]
-    #[tactic(auto, using(crate::proofs::Utf16BytesLemmas::units_count))]
     fn unit(self, at: usize) -> u16 {
         ByteOrder::BigEndian.code_unit(self.bytes[2 * at], self.bytes[2 * at + 1])
     }
 
     #[inline]
-    #[tactic(auto, using(crate::proofs::Utf16BytesLemmas::units_count))]
     fn block(self, at: usize) -> u16x16 {
         let swapped = u16x16::from_le_bytes(u8x32::from_slice(&self.bytes[2 * at..]));
         (swapped << u16x16::splat(8)) | (swapped >> u16x16::splat(8))

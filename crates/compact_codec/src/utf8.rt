@@ -1,4 +1,6 @@
 //! Bytes read as UTF-8 (Unicode Standard, 3.9).
+#![tactic(auto, using(crate::proofs::Facts::utf8_facts))]
+
 ghost use Rattle.std.specs.Prelude.{◌≡◌, ◌↔◌, ◌+◌, ◌<◌, ◌≤◌, ◌++◌, take, length, false, IsTrue, IsUtf8};
 ghost use Rattle.std.specs.Int.{is_in_range};
 ghost use Rattle.std.specs.Str.{IsAscii};

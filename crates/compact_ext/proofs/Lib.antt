@@ -10,3 +10,4 @@ pub mod WireRecordLemmas
 pub mod WireFacts
 pub mod WireExamples
 pub mod TakenLines
+pub mod Facts

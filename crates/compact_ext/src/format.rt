@@ -116,6 +116,7 @@ fn push_with_room(value: &mut CompactString, text: &str) -> Result<(), ReserveEr
 /// assert_eq!(rt; price.as_str(), "12 €");
 /// ```
 #[inline]
+#[tactic(auto, using(compact_text::proofs::TextFacts::text_facts, crate::proofs::Facts::format_facts))]
 pub fn collect_display<D: Display + Drop>(
     alloc: Global,
     shown: D,

@@ -176,6 +176,7 @@ fn line_len(bytes: &[u8]) -> Option<usize>
 }
 
 /// Appends a line that is gathered in a vector.
+#[tactic(auto, using(compact_text::proofs::TextFacts::text_facts, crate::proofs::Facts::lines_facts))]
 fn append_gathered<R: BufRead>(
     reader: &mut R,
     line: &mut CompactString,

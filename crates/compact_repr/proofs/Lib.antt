@@ -9,3 +9,4 @@ pub mod PackedEdits
 pub mod PackedFacts
 pub mod PackedOrder
 pub mod Examples
+pub mod Facts

@@ -64,6 +64,7 @@ pub fn standard_grows_by_half()
 pub const MAX_CAPACITY: usize = 72057594037927934;
 
 /// Returns the capacity to which a text of `len` bytes grows for `needed` bytes, or `None` if it exceeds `MAX_CAPACITY`.
+#[tactic(auto, using(compact_text::proofs::TextFacts::text_facts, crate::proofs::Facts::growth_facts))]
 pub fn grown_capacity<P: Policy>(len: usize, needed: usize) -> Option<usize>
     requires { len < 2 ^ 63 }
     ensures { let c = max P.growth.least

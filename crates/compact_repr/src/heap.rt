@@ -1,4 +1,6 @@
 //! A heap buffer: a text in a vector of bytes, whose capacity is the vector's.
+#![tactic(auto, using(compact_text::proofs::TextFacts::text_facts, crate::proofs::Facts::heap_facts))]
+
 ghost use Rattle.std.specs.Prelude.{◌≡◌, ◌+◌, ◌-◌, ◌≤◌, ◌<◌, ◌^◌, [], ◌∷◌, ◌++◌, length, false, IfOk, OnOk, OnErr, IsTrue, ◌↔◌, MatchOption};
 ghost use Rattle.std.specs.String.{string_bytes, string_capacity};
 ghost use Rattle.std.specs.Char.{len_utf8};

@@ -82,6 +82,7 @@ impl StaticStr {
 
     /// The length in bytes.
     #[inline]
+    #[tactic(auto, using(compact_text::proofs::TextFacts::text_facts, crate::proofs::Facts::static_str_facts))]
     pub fn len(&self) -> usize
         ensures value { result ≡ size self.now }
         ensures small { result < 2 ^ 63 }

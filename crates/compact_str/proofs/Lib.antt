@@ -26,3 +26,4 @@ pub mod RangeFacts
 pub mod ForCallers
 pub mod Examples
 pub mod Functions
+pub mod Facts

@@ -9,7 +9,6 @@ use crate::error::ReserveError;
 use crate::stack_buffer::{PaddedStr, StackBuffer};
 use crate::string::PolicyString;
 use compact_repr::Policy;
-use compact_text::slices::MAX_SHORT_LEN;
 use compact_text::str_parts::encode_char;
 use std::alloc::Global;
 use std::marker::Model;
@@ -184,21 +183,6 @@ impl<P: Policy, const N: usize> Builder<P, N> {
         push_or_reserve(&mut self.value, text, then)
     }
 
-    /// Appends a `text` that is not short or does not fit in the block, for `write_str`. Not inlined, so that a short piece
-    /// saves no registers.
-    #[inline(never)]
-    fn write_long(&mut self, text: &str) -> fmt::Result
-        ensures { OnOk result (self.new ≡ self.old ++ text_of text.now) }
-    {
-        match self.push_str(text) {
-            Ok(()) => Ok(()),
-            Err(ReserveError) => {
-                self.is_refused = true;
-                Err(fmt::Error)
-            }
-        }
-    }
-
     /// Returns the target's capacity less `len`, the bytes so far, if they are at least half of it.
     fn spare_of_target(&self, len: usize) -> Option<usize> {
         let spare = self.target_capacity.checked_sub(len)?;
@@ -299,9 +283,15 @@ impl<P: Policy, const N: usize> fmt::Write for Builder<P, N> {
     /// `fmt::Error` if allocation fails.
     #[inline]
     fn write_str(&mut self, text: &str) -> fmt::Result {
-        if text.len() <= MAX_SHORT_LEN && self.block.try_push_str(text) {
+        if self.block.try_copy_str(text) {
             return Ok(());
         }
-        self.write_long(text)
+        match self.push_str_slow(text) {
+            Ok(()) => Ok(()),
+            Err(ReserveError) => {
+                self.is_refused = true;
+                Err(fmt::Error)
+            }
+        }
     }
 }

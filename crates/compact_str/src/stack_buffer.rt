@@ -68,6 +68,7 @@ impl<const N: usize> Model for StackBuffer<N> {
     ghost invariant = { λ b. (b.len ≤ N) × IsUtf8 (take b.len b.bytes) };
 }
 
+#[tactic(auto, using(crate::proofs::CollectFacts::block_facts))]
 impl<const N: usize> StackBuffer<N> {
     /// Returns an empty buffer.
     #[inline]
@@ -101,6 +102,22 @@ impl<const N: usize> StackBuffer<N> {
         }
         let end = self.len + text.len();
         slices::write(&mut self.bytes, self.len, text.as_bytes());
+        self.len = end;
+        true
+    }
+
+    /// As `try_push_str`, by one copy: for a text whose length the compiler often knows.
+    #[inline]
+    pub fn try_copy_str(&mut self, text: &str) -> bool
+        ensures fits { IsTrue result ↔ (size self.old + length text.now ≤ N) }
+        ensures pushed { IsTrue result → self.new ≡ self.old ++ text_of text.now }
+        ensures full { result ≡ false → self.new ≡ self.old }
+    {
+        if text.len() > N - self.len {
+            return false;
+        }
+        let end = self.len + text.len();
+        slices::write_whole(&mut self.bytes, self.len, text.as_bytes());
         self.len = end;
         true
     }

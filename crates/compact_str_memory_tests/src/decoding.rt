@@ -9,33 +9,11 @@ use compact_testing::values::ascii_text;
 use std::alloc::Global;
 use std::process::Abort;
 
-/// Reads a buffer, and asserts that nothing remains.
-fn read_whole<B: Buf>(
-    rt: &impl Abort,
-    alloc: Global,
-    buf: &mut B,
-) -> Result<CompactString, FromUtf8Error> {
-    let made = CompactString::from_utf8_buf(alloc, buf);
-    assert_equal!(rt, buf.remaining(), 0);
-    made
-}
-
-/// Reads bytes as two pieces.
-fn of_two(
-    rt: &impl Abort,
-    alloc: Global,
-    bytes: &[u8],
-    place: usize,
-) -> Result<CompactString, FromUtf8Error> {
-    let first = bytes.get(..place).unwrap_or(&[]);
-    let second = bytes.get(place..).unwrap_or(&[]);
-    read_whole(rt, alloc, &mut Buf::chain(first, second))
-}
-
 /// Asserts that this text is read wherever it is split.
 fn assert_read(rt: &impl Abort, alloc: Global, text: &str) {
     for place in 0..text.len() + 1 {
-        let made = of_two(rt, alloc, text.as_bytes(), place);
+        let (first, second) = text.as_bytes().split_at(place);
+        let made = CompactString::from_utf8_buf(alloc, &mut Buf::chain(first, second));
         assert_fitted(rt, &made.ok().expect(rt, "a text"), text);
     }
 }
@@ -54,8 +32,9 @@ fn pieces_of_24_bytes_need_no_memory(rt: HostRuntime) {
     let alloc = rt.alloc();
     let hog = take_all(alloc).expect(rt, "room for the list of blocks");
     assert_read(rt, alloc, "€€€€€€€€");
-    let invalid = of_two(rt, alloc, b"a\xF0\x9F\x92", 2).err();
-    assert_that!(rt, invalid == error_at(1, None));
+    let mut invalid = Buf::chain(b"a\xF0".as_slice(), b"\x9F\x92".as_slice());
+    let failed = CompactString::from_utf8_buf(alloc, &mut invalid).err();
+    assert_that!(rt, failed == error_at(1, None));
     let mut long = Buf::chain(ascii_text(12).as_bytes(), ascii_text(13).as_bytes());
     let made = CompactString::from_utf8_buf(alloc, &mut long);
     assert_that!(rt, matches!(made, Err(FromUtf8Error::Reserve(_))));
@@ -72,11 +51,12 @@ fn after_a_failed_allocation_the_end_of_a_buffer_can_be_read(rt: HostRuntime) {
     drop(hog);
     assert_that!(rt, matches!(made, Err(FromUtf8Error::Reserve(_))));
     let len = buf.remaining();
-    let rest = read_whole(rt, alloc, &mut buf).ok().expect(rt, "a text");
+    let rest = CompactString::from_utf8_buf(alloc, &mut buf);
+    let rest = rest.ok().expect(rt, "a text");
     assert_equal!(rt, rest.len(), len);
     assert_that!(
         rt,
-        "abcdefghijklmnopqrstuvwxyzABCD".ends_with(rest.as_str()),
+        "abcdefghijklmnopqrstuvwxyzABCD".ends_with(rest.as_str())
     );
 }
 

@@ -15,3 +15,4 @@ pub mod ByteNumbers
 pub mod WordArrays
 pub mod EqualArrays
 pub mod AsciiArrays
+pub mod Facts

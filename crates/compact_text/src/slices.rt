@@ -1,4 +1,6 @@
 //! Editing byte slices by whole-word loads and stores.
+#![tactic(auto, using(crate::proofs::TextFacts::text_facts, crate::proofs::Facts::slices_facts))]
+
 ghost use Rattle.std.specs.Prelude.{◌≡◌, ◌+◌, ◌-◌, ◌≤◌, [], ◌++◌, length, take, drop, None, IfSome, replicate};
 ghost use Rattle.std.specs.Char.{len_utf8, encode_utf8};
 ghost use Rattle.std.specs.List.{replace_range};
@@ -135,7 +137,6 @@ fn set_array<const N: usize>(slice: &mut [u8], array: [u8; N])
 
 /// Writes `source` at `at`.
 #[inline(always)]
-#[tactic(auto, using(crate::proofs::SplicedSlices::appended))]
 pub fn write(slice: &mut [u8], at: usize, source: &[u8])
     requires { at + length source.now ≤ length slice.old }
     ensures written { slice.new ≡ paste slice.old at source.now (length source.now) }
@@ -153,7 +154,6 @@ pub const MAX_SHORT_LEN: usize = 32;
 
 /// Writes `source`, of at most 32 bytes, at `at`: its first and its last 16, 8, 4, 2 or 1 bytes, without a loop.
 #[inline(always)]
-#[tactic(auto, using(crate::proofs::SplicedSlices::appended))]
 pub fn write_short(slice: &mut [u8], at: usize, source: &[u8])
     requires short { length source.now ≤ 32 }
     requires target { at + length source.now ≤ length slice.old }
@@ -184,13 +184,23 @@ pub fn write_padded(slice: &mut [u8], at: usize, source: &[u8; 16], count: usize
     store(slice, at, load::<16>(source, 0));
 }
 
-/// `write` by one copy. Not inlined, so that `write` can be.
+/// Writes `source` at `at` by one copy: a store or two where the compiler knows the length.
+#[inline(always)]
+pub fn write_whole(slice: &mut [u8], at: usize, source: &[u8])
+    requires { at + length source.now ≤ length slice.old }
+    ensures written { slice.new ≡ paste slice.old at source.now (length source.now) }
+    ensures after { take (at + length source.now) slice.new ≡ take at slice.old ++ source.now }
+{
+    slice[at..at + source.len()].copy_from_slice(source);
+}
+
+/// `write_whole`, not inlined, so that `write` can be.
 #[inline(never)]
 fn write_long(slice: &mut [u8], at: usize, source: &[u8])
     requires { at + length source.now ≤ length slice.old }
     ensures { slice.new ≡ paste slice.old at source.now (length source.now) }
 {
-    slice[at..at + source.len()].copy_from_slice(source);
+    write_whole(slice, at, source);
 }
 
 /// Writes `source`, which has `N` to `2 * N` bytes, as its first `N` and its last `N`.

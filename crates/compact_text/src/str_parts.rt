@@ -1,4 +1,6 @@
 //! Characters and parts of a `&str`, by byte position.
+#![tactic(auto, using(crate::proofs::TextFacts::text_facts, crate::proofs::Facts::str_parts_facts))]
+
 ghost use Rattle.std.specs.Prelude.{◌≡◌, ◌+◌, ◌-◌, ◌<◌, ◌≤◌, List, ℕ, [], ◌∷◌, ◌++◌, length, take, MatchOption, IsTrue, ◌↔◌};
 ghost use Rattle.std.specs.Char.{len_utf8, encode_utf8};
 ghost use Rattle.std.specs.Int.{w32, to_le_bytes};

@@ -1,6 +1,8 @@
 //! Appends within a vector's reserved capacity.
 //!
 //! The loops move the vector out of its reference first.
+#![tactic(auto, using(crate::proofs::TextFacts::text_facts, crate::proofs::Facts::vec_facts))]
+
 ghost use Rattle.std.specs.Prelude.{◌≡◌, ◌+◌, ◌-◌, ◌<◌, ◌≤◌, [], ◌∷◌, ◌++◌, length, take, drop, replicate, IsTrue, false, IfSome, None};
 ghost use Rattle.std.specs.Char.{len_utf8, encode_utf8};
 ghost use Rattle.std.specs.List.{replace_range};
@@ -336,7 +338,6 @@ fn append_blocks_within<const N: usize>(vec: &mut Vec<u8>, start: usize, end: us
 
 /// Appends `source`, which has `N` to `2 * N` bytes, as its first `N` and its last `N`, without the overlap twice.
 #[inline(always)]
-#[tactic(auto, using(crate::proofs::Appends::joined_ends))]
 fn append_overlapping<const N: usize>(bytes: &mut Vec<u8>, source: &[u8])
     requires least { N ≤ length source.now }
     requires most { length source.now ≤ N + N }

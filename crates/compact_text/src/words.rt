@@ -1,5 +1,5 @@
 //! Arrays of 24 bytes as three words, read and written whole, without loops over bytes.
-#![tactic(auto)]
+#![tactic(auto, using(crate::proofs::Facts::words_facts))]
 
 ghost use Rattle.std.specs.Prelude.{◌≡◌, ◌+◌, ◌-◌, ◌*◌, ◌/◌, ◌^◌, ◌≤◌, ◌<◌, ◌∷◌, [], ◌++◌, length, take, drop, slice_index, IsTrue};
 ghost use Rattle.std.specs.Str.{IsAscii};

@@ -16,6 +16,7 @@ use std::alloc::Global;
 /// # Errors
 ///
 /// `Reserve` if allocation fails. Never fails up to 24 bytes.
+#[tactic(auto, using(compact_text::proofs::TextFacts::text_facts, crate::proofs::Facts::int128_facts))]
 pub fn format_by_itoa<I: Integer>(
     alloc: Global,
     n: I,

@@ -1,4 +1,6 @@
 //! Laws of the text of a number: functions that do nothing, whose contracts are the laws.
+#![tactic(auto, using(compact_text::proofs::TextFacts::text_facts, crate::proofs::Facts::laws_facts))]
+
 ghost use Rattle.std.specs.Prelude.{◌≡◌, ◌+◌, ◌/◌, ◌%◌, ◌<◌, ◌≤◌, ◌^◌, ℕ, [], ◌∷◌, ◌++◌, length};
 ghost use Rattle.std.specs.Fmt.{decimal};
 

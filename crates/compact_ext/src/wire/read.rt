@@ -43,6 +43,7 @@ const FIRST_ROOM: usize = 1 << 20;
 /// assert_eq!(rt; input, b"J".as_slice());
 /// ```
 #[inline]
+#[tactic(auto, using(compact_text::proofs::TextFacts::text_facts, crate::proofs::Facts::read_facts))]
 pub fn read_wire<R: Read>(alloc: Global, reader: &mut R) -> Result<CompactString, WireError>
     // Consumes just the form, and returns its text.
     ensures consumed { IfOk result (λ v.
@@ -110,6 +111,7 @@ fn read_short<R: Read>(
 /// Returns an inline string of the first `len` bytes of `room`. Writing the length into its last byte makes `room` the
 /// packed form, so this never allocates.
 #[inline]
+#[tactic(auto, using(compact_text::proofs::TextFacts::text_facts, crate::proofs::Facts::read_facts))]
 fn packed(alloc: Global, room: &mut [u8; 24], len: usize) -> Result<CompactString, WireError>
     requires { len ≤ INLINE_CAPACITY }
     ensures bytes { IfOk result (λ v. utf8 v.text ≡ take len room.old) }

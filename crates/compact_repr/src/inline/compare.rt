@@ -28,7 +28,7 @@ impl InlineBuffer {
     /// Compares the texts, by their first bytes alone if these differ and neither text is empty. Not inlined, so that
     /// no branch is made of the two bytes.
     #[inline(never)]
-    #[tactic(auto, using(crate::proofs::ByteOrder::order_facts))]
+    #[tactic(auto, using(crate::proofs::ByteOrder::order_facts, crate::proofs::PackedOrder::order_packed))]
     pub fn text_cmp(&self, other: &Self) -> Ordering
         ensures { result ≡ slice_cmp nat_cmp self.now other.now }
     {

@@ -1,4 +1,6 @@
 //! Comparison of two texts.
+#![tactic(auto, using(crate::proofs::ByteOrder::order_facts))]
+
 ghost use Rattle.std.specs.Prelude.{◌≡◌, nat_eq};
 ghost use Rattle.std.specs.Cmp.Lexicographic.{pointwise, slice_cmp};
 ghost use Rattle.std.specs.Ordering.{nat_cmp};
@@ -10,7 +12,6 @@ use std::cmp::Ordering;
 impl<P: Policy> Repr<P> {
     /// Returns `true` if the texts are equal, wherever they are stored.
     #[inline]
-    #[tactic(auto, using(crate::proofs::ByteOrder::order_facts))]
     pub fn same_text(&self, other: &Self) -> bool
         ensures { result ≡ pointwise nat_eq self.now.text other.now.text }
     {
@@ -22,7 +23,6 @@ impl<P: Policy> Repr<P> {
 
     /// Compares the texts, wherever they are stored.
     #[inline]
-    #[tactic(auto, using(crate::proofs::ByteOrder::order_facts))]
     pub fn text_cmp(&self, other: &Self) -> Ordering
         ensures { result ≡ slice_cmp nat_cmp self.now.text other.now.text }
     {
@@ -38,7 +38,6 @@ impl<P: Policy> Repr<P> {
 /// Compares by the first bytes if they differ, without a branch on the lengths. Not inlined, so that none is made of
 /// the two bytes.
 #[inline(never)]
-#[tactic(auto, using(crate::proofs::ByteOrder::order_facts))]
 fn byte_order(text: &str, other: &str) -> Ordering
     ensures { result ≡ slice_cmp nat_cmp text.now other.now }
 {

@@ -99,6 +99,7 @@ impl<P: Policy> Repr<P> {
     }
 
     /// Converts a `String`: copies up to 24 bytes inline, and otherwise reuses its buffer.
+    #[tactic(auto, using(compact_text::proofs::TextFacts::text_facts, crate::proofs::Facts::repr_facts))]
     pub fn from_string(text: String) -> Self
         ensures { let t = text_of (string_bytes text)
             in result ≡ placed_text t (from_string_placement t (string_capacity text)) }

@@ -190,6 +190,7 @@ fn from_utf16_bytes(
 }
 
 /// Converts pairs of bytes, replacing what is invalid with U+FFFD.
+#[tactic(auto, using(compact_text::proofs::TextFacts::text_facts, crate::proofs::Facts::utf16_facts))]
 fn from_utf16_bytes_lossy(
     alloc: Global,
     order: ByteOrder,

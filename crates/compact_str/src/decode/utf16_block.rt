@@ -145,6 +145,7 @@ fn is_surrogate(unit: u16) -> bool
 
 /// Writes a unit that is no surrogate at `at`, and returns the end. Always writes three bytes, without a branch.
 #[inline]
+#[tactic(auto, using(compact_text::proofs::TextFacts::text_facts, crate::proofs::Facts::utf16_block_facts))]
 fn write_unit(buffer: &mut [u8; 256], at: usize, unit: u16) -> usize
     requires { at + 4 ≤ 256 }
     ensures bytes { take result buffer.new ≡ take at buffer.old ++ encode_utf8 unit }
@@ -171,6 +172,7 @@ fn select(test: bool, yes: u16, no: u16) -> u16
 
 /// Writes `character` at `at`, and returns the end.
 #[inline]
+#[tactic(auto, using(compact_text::proofs::TextFacts::text_facts, crate::proofs::Facts::utf16_block_facts))]
 fn write_character(buffer: &mut [u8; 256], at: usize, character: char) -> usize
     requires { at + 4 ≤ 256 }
     ensures bytes { take result buffer.new ≡ take at buffer.old ++ encode_utf8 character }

@@ -12,6 +12,7 @@ use compact_repr::Policy;
 use std::alloc::AllocError;
 
 /// Appends each piece, and stops at the first error.
+#[tactic(auto, using(compact_text::proofs::TextFacts::text_facts, crate::proofs::Facts::extend_facts))]
 fn extend_elements<P: Policy, T: Element, U: IntoIterator<Item = T>>(
     value: &mut PolicyString<P>,
     iter: U,

@@ -1,4 +1,6 @@
 //! ASCII case.
+#![tactic(auto, using(crate::proofs::EditFacts::case_facts))]
+
 ghost use Rattle.std.specs.Prelude.{◌≡◌, ℕ, ◌<◌, ◌≤◌, IfOk, OnOk, OnErr, IsOk};
 ghost use Rattle.compact_str.specs.Words.{size, ascii_lowercase, ascii_uppercase, IsBoundary, IsOwned, INLINE_CAPACITY, IsPlacedAsNew, PlacedFor, AllocatesFor, owned};
 
@@ -22,7 +24,6 @@ impl<P: Policy> PolicyString<P> {
     /// word.make_ascii_lowercase()?;
     /// assert_eq!(rt; word.as_str(), "abcÄ");
     /// ```
-    #[tactic(auto, using(crate::proofs::EditFacts::case_facts))]
     pub fn make_ascii_lowercase(&mut self) -> Result<(), ReserveError>
         // Makes A to Z lowercase. A static string becomes owned, and an owned one keeps its capacity.
         ensures text { OnOk result (self.new.text ≡ ascii_lowercase self.old.text) }
@@ -53,7 +54,6 @@ impl<P: Policy> PolicyString<P> {
     /// word.make_ascii_uppercase()?;
     /// assert_eq!(rt; word.as_str(), "ABCä");
     /// ```
-    #[tactic(auto, using(crate::proofs::EditFacts::case_facts))]
     pub fn make_ascii_uppercase(&mut self) -> Result<(), ReserveError>
         // Makes a to z uppercase. A static string becomes owned, and an owned one keeps its capacity.
         ensures text { OnOk result (self.new.text ≡ ascii_uppercase self.old.text) }
@@ -83,7 +83,6 @@ impl<P: Policy> PolicyString<P> {
     /// let word = CompactString::new(alloc, "ABCÄ")?;
     /// assert_eq!(rt; word.to_ascii_lowercase()?.as_str(), "abcÄ");
     /// ```
-    #[tactic(auto, using(crate::proofs::EditFacts::case_facts))]
     pub fn to_ascii_lowercase(&self) -> Result<Self, ReserveError>
         ensures text { IfOk result (λ v. v.text ≡ ascii_lowercase self.now.text) }
         ensures place { IfOk result (IsPlacedAsNew P.growth) }
@@ -109,7 +108,6 @@ impl<P: Policy> PolicyString<P> {
     /// let word = CompactString::new(alloc, "abcä")?;
     /// assert_eq!(rt; word.to_ascii_uppercase()?.as_str(), "ABCä");
     /// ```
-    #[tactic(auto, using(crate::proofs::EditFacts::case_facts))]
     pub fn to_ascii_uppercase(&self) -> Result<Self, ReserveError>
         ensures text { IfOk result (λ v. v.text ≡ ascii_uppercase self.now.text) }
         ensures place { IfOk result (IsPlacedAsNew P.growth) }

@@ -3,6 +3,8 @@
 //! Up to 128 bytes move by both ends, which are read before either is written. More move by one `memmove` if the
 //! distance is one to four bytes, and otherwise in blocks, from the end if they move up: by a `memmove` for each 2048
 //! bytes, and then 64 bytes at a time.
+#![tactic(auto, using(crate::proofs::TextFacts::text_facts, crate::proofs::Facts::moves_facts))]
+
 ghost use Rattle.std.specs.Prelude.{◌≡◌, ◌+◌, ◌-◌, ◌≤◌, length, drop};
 ghost use lib.Seq.{paste};
 
@@ -11,7 +13,7 @@ use super::{array_at, set_array};
 
 /// Moves `count` bytes from `from` to `to`, which may overlap.
 #[inline(always)]
-#[tactic(auto, using(crate::proofs::MovesByBlock::move_facts))]
+#[tactic(auto, using(crate::proofs::MovesByBlock::move_facts, crate::proofs::Facts::moves_facts))]
 pub fn move_bytes(slice: &mut [u8], from: usize, to: usize, count: usize)
     requires source { from + count ≤ length slice.old }
     requires target { to + count ≤ length slice.old }

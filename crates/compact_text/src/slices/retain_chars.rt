@@ -1,4 +1,6 @@
 //! Retaining characters of a text in a slice.
+#![tactic(auto, using(crate::proofs::TextFacts::text_facts, crate::proofs::Facts::retain_chars_facts))]
+
 ghost use Rattle.std.specs.Prelude.{◌≡◌, ◌+◌, ◌≤◌, ◌<◌, ◌++◌, length, take, drop, if◌then◌else◌, IfSome, IsSome};
 ghost use Rattle.std.specs.Char.{len_utf8, encode_utf8, IsScalar};
 ghost use Rattle.std.specs.Str.{IsUtf8};

@@ -26,6 +26,7 @@ pub fn store<const N: usize>(slice: &mut [u8], at: usize, chunk: Simd<u8, N>)
 
 /// Stores the first `N` bytes.
 #[inline(always)]
+#[tactic(auto, using(crate::proofs::TextFacts::text_facts, crate::proofs::Facts::simd_facts))]
 fn store_first<const N: usize>(slice: &mut [u8], chunk: Simd<u8, N>)
     requires long_enough { N ≤ length slice.old }
     requires lanes { length chunk ≡ N }

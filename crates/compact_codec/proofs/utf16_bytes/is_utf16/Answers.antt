@@ -1,12 +1,7 @@
 use Rattle.std.proofs.Common.{sym}
-use Rattle.std.proofs.lemmas.Bool.{false≢true}
 use Rattle.compact_codec.specs.Utf16Bytes.{units_of}
-use Rattle.compact_codec.proofs.Utf16BytesLemmas.{even_if_pairs, pairs_encode}
+use Rattle.compact_codec.proofs.Utf16BytesLemmas.{pairs_encode}
 use Rattle.compact_codec.proofs.utf16_bytes.is_utf16.Goals as goal
-
-pub returns-then-bytes-ne0 : goal.returns-then-bytes-ne0
-returns-then-bytes-ne0 c =
-    (λ yes. absurd (false≢true yes), λ text. absurd (c.if-bytes-ne0.true (even_if_pairs c.args.bytes.now text.0)))
 
 pub returns-in-LittleEndian : goal.returns-in-LittleEndian
 returns-in-LittleEndian c =

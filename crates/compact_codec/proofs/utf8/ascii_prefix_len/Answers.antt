@@ -10,9 +10,6 @@ loop-at-preserved c = (
       (c.is_ascii_block.ensures c.if-not-is_ascii_block.false),
 )
 
-pub returns-then-not-is_ascii_block-clause-text : goal.returns-then-not-is_ascii_block-clause-text
-returns-then-not-is_ascii_block-clause-text c = IsUtf8-from_ascii _ c.loop-at.invariant.1
-
 pub returns-else-is_ascii_block-clause-text : goal.returns-else-is_ascii_block-clause-text
 returns-else-is_ascii_block-clause-text c =
     let last = length c.args.bytes.now - 64 in

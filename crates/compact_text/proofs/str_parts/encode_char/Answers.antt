@@ -1,10 +1,7 @@
 use Rattle.std.proofs.Common.{◌∙◌, refl, []}
-use Rattle.std.proofs.lemmas.Str.{chars-nil, IsUtf8-nil, IsUtf8-encode}
+use Rattle.std.proofs.lemmas.Str.{chars-nil, IsUtf8-nil}
 use Rattle.compact_text.proofs.CutLemmas.{text_of-last}
 use Rattle.compact_text.proofs.str_parts.encode_char.Goals as goal
-
-pub from_utf8_unchecked-requires : goal.from_utf8_unchecked-requires
-from_utf8_unchecked-requires c = rw c.encoded-len.ensures.bytes (IsUtf8-encode c.args.character c.ranges.character.0)
 
 pub returns-clause-text : goal.returns-clause-text
 returns-clause-text c =

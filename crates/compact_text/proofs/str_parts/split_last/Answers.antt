@@ -1,6 +1,4 @@
 use Rattle.std.proofs.Common.{◌≡◌, ◌∷◌, [], length, ap, sym, ◌∙◌, ◌++◌}
-use Rattle.std.proofs.lemmas.List.{nil_from_length}
-use Rattle.std.proofs.lemmas.Str.{chars-nil}
 use lib.Utf8.{encode}
 use Rattle.compact_text.specs.Text.{text_of}
 use Rattle.compact_text.specs.Cut.{text_before}
@@ -25,8 +23,3 @@ returns-in-Some c =
         record { parts = whole; position = position },
       ),
     )
-
-pub returns-in-None : goal.returns-in-None
-returns-in-None c =
-    ap text_of (nil_from_length c.args.text.now (ap length (sym c.chars-front.ensures.rest)
-    ∙ c.in-None.ensures.steps.0)) ∙ chars-nil

@@ -1,5 +1,4 @@
-use Rattle.std.proofs.Common.{refl, arith, sym, ◌∙◌}
-use Rattle.compact_repr.proofs.PackedTexts.{packed-len}
+use Rattle.std.proofs.Common.{refl, arith}
 use Rattle.compact_ext.proofs.PackedBuffers.{text-front, no_text-front}
 use Rattle.compact_ext.proofs.wire.read.packed.Goals as goal
 
@@ -8,11 +7,6 @@ returns-in-Some-clause-bytes c =
     let told = c.if-not-write_len_byte.ensures in
     text-front c.write_len_byte.new.room c.in-Some.value.text _ c.args.len c.in-Some.ensures.value.0 told.written
     told.front
-
-pub returns-in-Some-clause-len : goal.returns-in-Some-clause-len
-returns-in-Some-clause-len c =
-    sym (packed-len c.write_len_byte.new.room c.in-Some.value.text c.in-Some.ensures.value.0)
-    ∙ c.if-not-write_len_byte.ensures.written
 
 pub returns-in-None-clause-err : goal.returns-in-None-clause-err
 returns-in-None-clause-err c =

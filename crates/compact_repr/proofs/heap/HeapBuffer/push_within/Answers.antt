@@ -1,6 +1,5 @@
-use Rattle.std.proofs.Common.{refl}
-use Rattle.std.proofs.lemmas.Str.{IsUtf8-append, chars-append}
-use Rattle.compact_repr.proofs.HeapTexts.{shown-text, shown-capacity}
+use Rattle.std.proofs.lemmas.Str.{IsUtf8-append}
+use Rattle.compact_repr.proofs.HeapTexts.{shown-text}
 use Rattle.compact_text.proofs.SubstringLemmas.{part-text}
 use Rattle.compact_repr.proofs.heap.HeapBuffer.push_within.Goals as goal
 
@@ -9,16 +8,3 @@ invariant_of-self c =
     let part = part-text _ c.args.start c.args.end (shown-text _ c.self.view_is) c.self.invariant c.requires.first
     c.requires.last c.requires.order in
     rw c.append_within.ensures.items (IsUtf8-append _ _ c.self.invariant part.0)
-
-pub returns : goal.returns
-returns c =
-    let part = part-text _ c.args.start c.args.end (shown-text _ c.self.view_is) c.self.invariant c.requires.first
-    c.requires.last c.requires.order in
-    rw (
-      c.append_within.ensures.items,
-      chars-append _ _ c.self.invariant,
-      shown-text _ c.self.view_is,
-      part.1,
-      c.append_within.ensures.capacity,
-      shown-capacity _ c.self.view_is,
-    ) refl

@@ -1,4 +1,4 @@
-use Rattle.std.proofs.Common.{◌∙◌, ◌+◌, ◌-◌, arith}
+use Rattle.std.proofs.Common.{◌∙◌, ◌+◌, arith}
 use Rattle.compact_text.proofs.MovesByBlock.{shifted-down}
 use Rattle.compact_text.proofs.slices.moves.move_blocks_down.Goals as goal
 
@@ -19,10 +19,3 @@ moves-preserved c = (
       (c.args.to + c.moves.done) (c.moves.done + 64)
       (omega arith) (omega arith) (omega arith) (omega arith) (omega arith) c.moves.invariant.1,
 )
-
-pub returns : goal.returns
-returns c =
-    c.move_up_to_128.ensures
-    ∙ shifted-down c.args.slice.now c.moves.slice c.args.from c.args.to c.moves.done (c.args.count - c.moves.done)
-    (c.args.from + c.moves.done) (c.args.to + c.moves.done) c.args.count
-    (omega arith) (omega arith) (omega arith) (omega arith) (omega arith) c.moves.invariant.1

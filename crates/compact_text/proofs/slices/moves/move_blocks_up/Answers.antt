@@ -21,10 +21,3 @@ moves-preserved c = (
       (c.args.to + c.moves.left) (c.args.count - (c.moves.left - 64))
       (omega arith) (omega arith) (omega arith) (omega arith) (omega arith) c.moves.invariant.1,
 )
-
-pub returns : goal.returns
-returns c =
-    c.move_up_to_128.ensures
-    ∙ shifted-up c.args.slice.now c.moves.slice c.args.from c.args.to c.moves.left (c.args.count - c.moves.left)
-    (c.args.from + c.moves.left) (c.args.to + c.moves.left) c.args.count
-    (omega arith) (omega arith) (omega arith) (omega arith) (omega arith) c.moves.invariant.1
