@@ -54,10 +54,8 @@ fn after_a_failed_allocation_the_end_of_a_buffer_can_be_read(rt: HostRuntime) {
     let rest = CompactString::from_utf8_buf(alloc, &mut buf);
     let rest = rest.ok().expect(rt, "a text");
     assert_equal!(rt, rest.len(), len);
-    assert_that!(
-        rt,
-        "abcdefghijklmnopqrstuvwxyzABCD".ends_with(rest.as_str())
-    );
+    let is_end = "abcdefghijklmnopqrstuvwxyzABCD".ends_with(rest.as_str());
+    assert_that!(rt, is_end);
 }
 
 /// Asserts that units are invalid.
