@@ -10,6 +10,8 @@ mod field;
 #[cfg(test)]
 mod iterator;
 #[cfg(test)]
+mod lender;
+#[cfg(test)]
 mod lines_read;
 #[cfg(test)]
 mod lookup;
@@ -21,6 +23,8 @@ mod one_error;
 mod packed;
 #[cfg(test)]
 mod part;
+#[cfg(test)]
+mod plain;
 #[cfg(test)]
 mod range;
 #[cfg(test)]

@@ -1,7 +1,8 @@
 //! Tests of the callers in `lines_read.rt`.
 
 use compact_asserts::{assert_equal, assert_that};
-use compact_callers::lines_read::{first_line, longest_line};
+use compact_callers::lines_read::{first_line, longest_line, next_pair};
+use compact_str::CompactString;
 use compact_testing::checks::is_inline;
 
 #[test]
@@ -32,4 +33,16 @@ fn the_first_line_is_read(rt: HostRuntime) {
     assert_that!(rt, is_inline(&line, "ab"));
     let mut reader: &[u8] = b"\xC3\n";
     assert_that!(rt, first_line(alloc, &mut reader).is_err());
+}
+
+#[test]
+fn a_pair_is_read_until_the_end(rt: HostRuntime) {
+    let rt = &rt;
+    let mut reader: &[u8] = b"a\nb\nc\n";
+    let mut key = CompactString::default(rt.alloc());
+    let mut value = CompactString::default(rt.alloc());
+    assert_that!(rt, next_pair(&mut reader, &mut key, &mut value).expect(rt, "a pair"));
+    assert_that!(rt, next_pair(&mut reader, &mut key, &mut value).expect(rt, "a key"));
+    assert_that!(rt, is_inline(&key, "c\n"));
+    assert_that!(rt, !next_pair(&mut reader, &mut key, &mut value).expect(rt, "the end"));
 }

@@ -1,4 +1,4 @@
--- The lemmas that the functions of each source file need.
+-- The rulesets that functions name: the lemmas of a source file, or of some of its functions.
 use Rattle.compact_codec.proofs.InvalidSequenceLemmas.{longer_ascii, ascii_prefix, ascii_to_end}
 use Rattle.compact_codec.proofs.Rows.{table_is}
 use Rattle.compact_codec.proofs.Utf16BytesLemmas.{units_count, pairs_are, high_block}

@@ -250,7 +250,7 @@ fn validate_to_error(bytes: &[u8]) -> Result<&str, Utf8Error>
 /// Returns `true` for a continuation byte, and for a byte that is in no text.
 #[inline]
 fn begins_no_character(byte: u8) -> bool
-    ensures { IsTrue result → (128 ≤ byte) × (is_in_range 0xC2 0xF4 byte ≡ false) }
+    ensures { IsTrue result ↔ ((128 ≤ byte) × (is_in_range 0xC2 0xF4 byte ≡ false)) }
 {
     byte >= 0x80 && (byte < 0xC2 || byte > 0xF4)
 }

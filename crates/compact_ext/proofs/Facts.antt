@@ -1,4 +1,4 @@
--- The lemmas that the functions of each source file need.
+-- The rulesets that functions name: the lemmas of a source file, or of some of its functions.
 use Rattle.compact_ext.proofs.FormatLemmas.{taken-text, taken-bytes}
 use Rattle.compact_ext.proofs.PackedBuffers.{text-front, no_text-front}
 use Rattle.compact_ext.proofs.TakenLines.{fails-after}

@@ -1,4 +1,4 @@
--- The lemmas that the functions of each source file need.
+-- The rulesets that functions name: the lemmas of a source file, or of some of its functions.
 use Rattle.compact_repr.proofs.HeapTexts.{shown-text, shown-capacity, shown-size, written, whole}
 use Rattle.compact_repr.proofs.ReusedBuffers.{size-string}
 use Rattle.compact_text.proofs.AsciiCase.{text_of-in_case}

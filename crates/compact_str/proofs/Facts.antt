@@ -1,4 +1,4 @@
--- The lemmas that the functions of each source file need.
+-- The rulesets that functions name: the lemmas of a source file, or of some of its functions.
 use Rattle.compact_codec.proofs.Utf16BytesLemmas.{even_bytes_text}
 use Rattle.compact_str.proofs.CharacterWrites.{two_after, three_after, four_after, after_unit}
 use Rattle.compact_str.proofs.CollectLemmas.{Appends-next, pushed-from_parts, room-left, yields-next}

@@ -90,7 +90,7 @@ impl<const N: usize> StackBuffer<N> {
         unsafe { std::str::from_utf8_unchecked(&self.bytes[..self.len]) }
     }
 
-    /// Appends `text`, or returns `false` if it does not fit.
+    /// Appends `text`, up to 32 bytes by words, or returns `false` if it does not fit.
     #[inline]
     pub fn try_push_str(&mut self, text: &str) -> bool
         ensures fits { IsTrue result ↔ (size self.old + length text.now ≤ N) }

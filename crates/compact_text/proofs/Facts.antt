@@ -1,4 +1,4 @@
--- The lemmas that the functions of each source file need.
+-- The rulesets that functions name: the lemmas of a source file, or of some of its functions.
 use Rattle.compact_text.proofs.Appends.{joined_ends, one_more, one_more_within}
 use Rattle.compact_text.proofs.ByteNumbers.{word_bytes-high, two_reads, number_third, number_second}
 use Rattle.compact_text.proofs.CutLemmas.{boundary-bytes, text_of-take, text_of-drop}
