@@ -41,8 +41,17 @@ fn a_pair_is_read_until_the_end(rt: HostRuntime) {
     let mut reader: &[u8] = b"a\nb\nc\n";
     let mut key = CompactString::default(rt.alloc());
     let mut value = CompactString::default(rt.alloc());
-    assert_that!(rt, next_pair(&mut reader, &mut key, &mut value).expect(rt, "a pair"));
-    assert_that!(rt, next_pair(&mut reader, &mut key, &mut value).expect(rt, "a key"));
+    assert_that!(
+        rt,
+        next_pair(&mut reader, &mut key, &mut value).expect(rt, "a pair")
+    );
+    assert_that!(
+        rt,
+        next_pair(&mut reader, &mut key, &mut value).expect(rt, "a key")
+    );
     assert_that!(rt, is_inline(&key, "c\n"));
-    assert_that!(rt, !next_pair(&mut reader, &mut key, &mut value).expect(rt, "the end"));
+    assert_that!(
+        rt,
+        !next_pair(&mut reader, &mut key, &mut value).expect(rt, "the end")
+    );
 }

@@ -5,6 +5,8 @@
 #[cfg(test)]
 mod formats;
 #[cfg(test)]
+mod number_values;
+#[cfg(test)]
 mod numbers;
 #[cfg(test)]
 mod read_line;

@@ -155,6 +155,9 @@ fn a_writer_that_is_full_has_a_beginning(rt: HostRuntime) {
     }
     let whole = Narrow::new(6, 1, Stop::Breaks(7, ErrorKind::Other));
     assert_writes(&rt, &text, whole, "done", &form);
+    let empty = short(rt.alloc(), "");
+    let four = Narrow::new(4, 5, Stop::Never);
+    assert_writes(&rt, &empty, four, "done", &[0; 4]);
 }
 
 #[test]

@@ -1,5 +1,4 @@
-//! Comparing and hashing. The order of the many texts was worked out by a program in Python, which sorts by code
-//! points.
+//! Comparing and hashing.
 
 use compact_asserts::{assert_equal, assert_that, that};
 use compact_str::CompactString;
@@ -7,7 +6,6 @@ use compact_testing::checks::{hash_of, is_heap, is_static};
 use compact_testing::values::{
     append, ascii_text, lasting, short, string_with_room, value_of, with_room,
 };
-use std::alloc::{AllocError, Global};
 use std::cmp::Ordering;
 use std::hash::{DefaultHasher, Hash, Hasher};
 use std::process::Abort;
@@ -79,82 +77,7 @@ fn texts_are_in_this_order(rt: HostRuntime) {
     let texts = ["", "a", "ab", "b", "\u{fffd}", "\u{10000}"];
     for i in 1..texts.len() {
         let value = value_of(alloc, texts[i - 1]).expect(&rt, "memory");
-        assert_less(
-            &rt,
-            &value,
-            &value_of(alloc, texts[i]).expect(&rt, "memory"),
-        );
+        let next = value_of(alloc, texts[i]).expect(&rt, "memory");
+        assert_less(&rt, &value, &next);
     }
-}
-
-/// Draws the next number.
-fn next(state: &mut u64) -> u64 {
-    *state = state
-        .wrapping_mul(6_364_136_223_846_793_005)
-        .wrapping_add(1_442_695_040_888_963_407);
-    *state >> 33
-}
-
-/// Characters of each width, and at the ends of the widths.
-const CHARACTERS: [char; 16] = [
-    'a',
-    'b',
-    'z',
-    '\u{7f}',
-    '\u{80}',
-    'é',
-    '\u{7ff}',
-    '\u{800}',
-    '€',
-    '\u{d7ff}',
-    '\u{e000}',
-    '\u{fffd}',
-    '\u{ffff}',
-    '\u{10000}',
-    '\u{1f600}',
-    '\u{10ffff}',
-];
-
-/// Draws a text of up to 8 characters, after 26 ASCII characters in every fourth.
-fn next_text(rt: &impl Abort, alloc: Global, state: &mut u64) -> CompactString {
-    let mut text = CompactString::default(alloc);
-    if next(state) % 4 == 0 {
-        append(&mut text, ascii_text(26)).expect(rt, "memory");
-    }
-    for _ in 0..next(state) % 9 {
-        let character = CHARACTERS[(next(state) % 16) as usize];
-        text.push(character).expect(rt, "memory");
-    }
-    text
-}
-
-/// Draws 2000 texts.
-fn texts(rt: &impl Abort, alloc: Global) -> Result<Vec<CompactString>, AllocError> {
-    let mut state = 0x1234_5678_9abc_def1;
-    let mut texts = Vec::with_capacity(alloc, 2000)?;
-    for _ in 0..2000 {
-        texts.push(next_text(rt, alloc, &mut state))?;
-    }
-    Ok(texts)
-}
-
-/// Hashes texts in order: FNV-1a over each text and a byte FF.
-fn checksum(texts: &[CompactString]) -> u64 {
-    let mut sum: u64 = 0xcbf2_9ce4_8422_2325;
-    for text in texts {
-        for byte in text.as_bytes() {
-            sum = (sum ^ u64::from(*byte)).wrapping_mul(0x100_0000_01b3);
-        }
-        sum = (sum ^ 0xff).wrapping_mul(0x100_0000_01b3);
-    }
-    sum
-}
-
-#[test]
-fn many_texts_are_sorted_by_their_characters(rt: HostRuntime) {
-    let rt = &rt;
-    let mut texts = texts(rt, rt.alloc()).expect(rt, "memory");
-    assert_equal!(rt, checksum(&texts), 0x09d0_5973_d45d_07b5);
-    texts.as_mut_slice().sort_unstable();
-    assert_equal!(rt, checksum(&texts), 0x6be0_90d3_3511_8755);
 }

@@ -263,7 +263,7 @@ fn insert_part<const N: usize>(bytes: &mut Vec<u8>, index: usize, source: &[u8])
 
 /// Appends zeros up to a length of `len` bytes: one block if that is enough and has room, otherwise one by one.
 #[inline(always)]
-pub fn append_zeros(bytes: &mut Vec<u8>, len: usize)
+fn append_zeros(bytes: &mut Vec<u8>, len: usize)
     requires longer { vec_len bytes.old ≤ len }
     requires room { len ≤ vec_capacity bytes.old }
     ensures items { bytes.new.items ≡ bytes.old.items ++ replicate (len - vec_len bytes.old) 0 }
