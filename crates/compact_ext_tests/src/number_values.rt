@@ -17,7 +17,7 @@ fn is_decimal(text: &str, magnitude: u16) -> bool {
     left == 0 && (text == "0" || !text.starts_with('0'))
 }
 
-/// Asserts the text of a number, without its sign by its magnitude.
+/// Asserts that the text of a number is its sign and the digits of its magnitude.
 fn assert_shows<T: ToCompactString>(
     rt: &impl Abort,
     alloc: Global,
