@@ -24,8 +24,11 @@ STRING, CRATE, OURS = 0, 1, 3
 LIMIT = 1.25
 # A row with at most this ratio of instructions is slow for another reason than what it does.
 ALIKE = 1.10
+# With at most this ratio, a peer copies by `rep movsb`, which counts as an instruction a byte.
+COPIED = 0.7
 REASONS = {
     "alike": "at most 1.10 of the instructions: where the code lies, or what it waits for",
+    "copies": "a long text is copied 1024 bytes at a time, or moved by 2048, where a peer makes one copy",
     "place": "each call tests where the text is, inline, on the heap or static, and decodes an inline length",
     "append": "the row first clears a value and appends a text, which tests the place twice; then as `place`",
     "gather": "the length is not known before, so pieces are gathered in a block and then copied",
@@ -79,7 +82,9 @@ def counted(program, row):
 
 def reason(call, ratio):
     """Returns the name of the reason of a slow row."""
-    return "alike" if ratio <= ALIKE else next(name for name, calls in CALLS.items() if call in calls.split())
+    if ratio <= ALIKE:
+        return "copies" if ratio <= COPIED else "alike"
+    return next(name for name, calls in CALLS.items() if call in calls.split())
 
 
 def main():
