@@ -1,7 +1,23 @@
 -- The bytes of a character.
-use Rattle.std.proofs.Common.{◌≡◌, ℕ, ◌+◌, ◌/◌, ◌%◌, ◌<◌, ◌≤◌, [], ◌∷◌, ◌∙◌, arith}
-use Rattle.std.proofs.lemmas.Bool.{cond-true, cond-false, lt-ltb, le-ltb}
+use Rattle.std.proofs.Common.{◌≡◌, ℕ, ◌+◌, ◌/◌, ◌%◌, ◌<◌, ◌≤◌, [], ◌∷◌, ◌∙◌, arith, inl, inr}
+use Rattle.std.proofs.lemmas.Bool.{cases_lt, cond-true, cond-false, lt-ltb, le-ltb}
 use lib.Utf8.{encode}
+
+-- how many bytes it has (Unicode Standard, 3.9, table 3-6)
+pub data Width (c : ℕ) : Type 0 where
+  one : c < 128 → Width c
+  two : 128 ≤ c → c < 2048 → Width c
+  three : 2048 ≤ c → c < 65536 → Width c
+  four : 65536 ≤ c → Width c
+
+pub width : (c : ℕ) → Width c
+width c = elim (cases_lt c 128) [
+  | inl a ↦ one a
+  | inr a ↦ elim (cases_lt c 2048) [
+    | inl b ↦ two a b
+    | inr b ↦ elim (cases_lt c 65536) [ inl d ↦ three b d | inr d ↦ four d ]
+  ]
+]
 
 pub encode_one : (c : ℕ) → c < 0x80 → encode c ≡ c ∷ []
 unfolding encode

@@ -2,6 +2,7 @@ pub mod Texts
 pub mod Encodings
 pub mod Ascii
 pub mod CutLemmas
+pub mod LastCharacter
 pub mod MovesByBlock
 pub mod OverlappingWrites
 pub mod Appends

@@ -2,10 +2,13 @@
 #![tactic(auto, using(crate::proofs::TextFacts::text_facts, crate::proofs::Facts::str_parts_facts))]
 
 ghost use Rattle.std.specs.Prelude.{◌≡◌, ◌+◌, ◌-◌, ◌<◌, ◌≤◌, List, ℕ, [], ◌∷◌, ◌++◌, length, take, MatchOption, IsTrue, ◌↔◌};
-ghost use Rattle.std.specs.Char.{len_utf8, encode_utf8};
+ghost use Rattle.std.specs.Char.{len_utf8, encode_utf8, IsScalar};
 ghost use Rattle.std.specs.Int.{w32, to_le_bytes};
 ghost use Rattle.compact_text.specs.Text.{text_of};
 ghost use Rattle.compact_text.specs.Cut.{IsBoundary, IsCharAt, is_boundary, text_before, text_after, substring, CutIsBeforeAndAfter};
+
+/// The least first byte of a character of several bytes.
+const FIRST_BYTE: u8 = 0xC0;
 
 /// Returns the part before a boundary.
 #[inline]
@@ -77,18 +80,40 @@ pub fn split_first(text: &str) -> Option<(char, usize)>
     }
 }
 
-/// Returns where the last character begins, and the character, or `None` if the text is empty.
+/// Returns where the last character begins, and the character, or `None` if the text is empty. Reads each of its bytes
+/// once, from the last one back.
 #[inline]
 pub fn split_last(text: &str) -> Option<(usize, char)>
     ensures { MatchOption result (text_of text.now ≡ [])
         (λ last. (text_of text.now ≡ text_before (text_of text.now) last.0 ++ last.1 ∷ [])
         × IsBoundary (text_of text.now) last.0) }
 {
-    let mut front = text.chars();
-    match front.next_back() {
-        Some(character) => Some((front.as_str().len(), character)),
-        None => None,
+    let (byte, front) = text.as_bytes().split_last()?;
+    if *byte < 0x80 {
+        return Some((front.len(), char::from(*byte)));
     }
+    let code = u32::from(*byte) % 64;
+    let Some((byte, front)) = front.split_last() else { unreachable!() };
+    if *byte >= FIRST_BYTE {
+        return Some((front.len(), of_code(u32::from(*byte) % 32 * 64 + code)));
+    }
+    let code = u32::from(*byte) % 64 * 64 + code;
+    let Some((byte, front)) = front.split_last() else { unreachable!() };
+    if *byte >= FIRST_BYTE {
+        return Some((front.len(), of_code(u32::from(*byte) % 16 * 4096 + code)));
+    }
+    let code = u32::from(*byte) % 64 * 4096 + code;
+    let Some((byte, front)) = front.split_last() else { unreachable!() };
+    Some((front.len(), of_code(u32::from(*byte) % 8 * 262144 + code)))
+}
+
+/// Returns the character of a code.
+#[inline(always)]
+fn of_code(code: u32) -> char
+    requires { IsScalar code }
+    ensures { result ≡ code }
+{
+    unsafe { char::from_u32_unchecked(code) }
 }
 
 /// Encodes a character: returns its 1 to 4 bytes, padded, and their number.
