@@ -4,7 +4,7 @@ use Rattle.compact_text.proofs.ByteNumbers.{word_bytes-high, two_reads, number_t
 use Rattle.compact_text.proofs.CutLemmas.{boundary-bytes, text_of-take, text_of-drop}
 use Rattle.compact_text.proofs.CutLemmas.{text_of-last, text_before-append}
 use Rattle.compact_text.proofs.Encodings.{encode_two, encode_three, encode_four}
-use Rattle.compact_text.proofs.LastCharacter.{ends-one, ends-two, ends-three, ends-four, second, third, fourth, cut-ends}
+use Rattle.compact_text.proofs.LastCharacter.{decoded}
 use Rattle.compact_text.proofs.MovesByBlock.{shifted-down, shifted-up}
 use Rattle.compact_text.proofs.MovesByDistance.{part-down, part-up}
 use Rattle.compact_text.proofs.OverlappingWrites.{ends}
@@ -33,9 +33,7 @@ pub ruleset cut_facts = (between_from_start, text_of-take, text_of-drop, text_of
 
 pub ruleset character_facts = (chars-nil, IsUtf8-nil, IsUtf8-encode, encode_two, encode_three, encode_four)
 
-pub ruleset last_facts = (ends-one, ends-two, ends-three, ends-four, second, third, fourth, cut-ends)
-
-pub ruleset str_parts_facts = (cut_facts, character_facts, boundary-bytes, nil_from_length, size-text_of)
+pub ruleset str_parts_facts = (cut_facts, character_facts, boundary-bytes, nil_from_length, size-text_of, decoded)
 
 pub ruleset vec_facts = (joined_ends, one_more, one_more_within)
 

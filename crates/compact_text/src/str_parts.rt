@@ -88,23 +88,31 @@ pub fn split_last(text: &str) -> Option<(usize, char)>
         (λ last. (text_of text.now ≡ text_before (text_of text.now) last.0 ++ last.1 ∷ [])
         × IsBoundary (text_of text.now) last.0) }
 {
-    let (byte, front) = text.as_bytes().split_last()?;
-    if *byte < 0x80 {
-        return Some((front.len(), char::from(*byte)));
+    let bytes = text.as_bytes();
+    let len = bytes.len();
+    if len == 0 {
+        return None;
     }
-    let code = u32::from(*byte) % 64;
-    let Some((byte, front)) = front.split_last() else { unreachable!() };
-    if *byte >= FIRST_BYTE {
-        return Some((front.len(), of_code(u32::from(*byte) % 32 * 64 + code)));
+    let at = len - 1;
+    let byte = bytes[at];
+    if byte < 0x80 {
+        return Some((at, char::from(byte)));
     }
-    let code = u32::from(*byte) % 64 * 64 + code;
-    let Some((byte, front)) = front.split_last() else { unreachable!() };
-    if *byte >= FIRST_BYTE {
-        return Some((front.len(), of_code(u32::from(*byte) % 16 * 4096 + code)));
+    let code = u32::from(byte) % 64;
+    let at = len - 2;
+    let byte = bytes[at];
+    if byte >= FIRST_BYTE {
+        return Some((at, of_code(u32::from(byte) % 32 * 64 + code)));
     }
-    let code = u32::from(*byte) % 64 * 4096 + code;
-    let Some((byte, front)) = front.split_last() else { unreachable!() };
-    Some((front.len(), of_code(u32::from(*byte) % 8 * 262144 + code)))
+    let code = u32::from(byte) % 64 * 64 + code;
+    let at = len - 3;
+    let byte = bytes[at];
+    if byte >= FIRST_BYTE {
+        return Some((at, of_code(u32::from(byte) % 16 * 4096 + code)));
+    }
+    let code = u32::from(byte) % 64 * 4096 + code;
+    let at = len - 4;
+    Some((at, of_code(u32::from(bytes[at]) % 8 * 262144 + code)))
 }
 
 /// Returns the character of a code.
