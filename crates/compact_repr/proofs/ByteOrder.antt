@@ -8,6 +8,8 @@ use Rattle.std.specs.Cmp.Lexicographic.{slice_cmp, pointwise, texts_ties}
 use Rattle.std.proofs.lemmas.Bool.{cases_lt, cases_order, cond-true, cond-false, lt-ltb, le-ltb}
 use Rattle.std.proofs.lemmas.Cmp.{nat_list_cmp_total, nat_cmp_total, tied_itself}
 use Rattle.compact_text.specs.Text.{utf8}
+use Rattle.compact_text.proofs.Encodings.{Width, one, two, three, four, width, encode_one, encode_two, encode_three}
+use Rattle.compact_text.proofs.Encodings.{encode_four}
 use lib.Utf8.{encode, next}
 
 abbrev list_cmp : List ℕ → List ℕ → Ordering
@@ -70,21 +72,6 @@ spread_less (suc count) lead c d xs ys h = elim (cases_lt (c / 64) (d / 64)) [
 
 -- The number of bytes after the first, and its mark (Unicode Standard, 3.9, table 3-6).
 
-data Width (c : ℕ) : Type 0 where
-  one : c < 128 → Width c
-  two : 128 ≤ c → c < 2048 → Width c
-  three : 2048 ≤ c → c < 65536 → Width c
-  four : 65536 ≤ c → Width c
-
-width : (c : ℕ) → Width c
-width c = elim (cases_lt c 128) [
-  | inl a ↦ one a
-  | inr a ↦ elim (cases_lt c 2048) [
-    | inl b ↦ two a b
-    | inr b ↦ elim (cases_lt c 65536) [ inl d ↦ three b d | inr d ↦ four d ]
-  ]
-]
-
 count_of : {c : ℕ} → Width c → ℕ
 count_of (one _) = 0
 count_of (two _ _) = 1
@@ -98,18 +85,12 @@ lead_of (three _ _) = 224
 lead_of (four _) = 240
 
 encode-spread : (c : ℕ) (w : Width c) (rest : List ℕ) → encode c ++ rest ≡ spread (count_of w) (lead_of w) c rest
-unfolding encode count_of lead_of
-encode-spread c (one h) rest = ap (λ l. l ++ rest) (cond-true _ _ _ (lt-ltb c 128 h))
-    ∙ ap (λ (x : ℕ). x ∷ rest) (omega arith)
-encode-spread c (two l h) rest = ap (λ l. l ++ rest) (cond-false _ _ _ (le-ltb c 128 l)
-    ∙ cond-true _ _ _ (lt-ltb c 2048 h))
-encode-spread c (three l h) rest =
-    ap (λ l. l ++ rest) (cond-false _ _ _ (le-ltb c 128 (omega arith)) ∙ cond-false _ _ _ (le-ltb c 2048 l)
-    ∙ cond-true _ _ _ (lt-ltb c 65536 h))
+unfolding count_of lead_of
+encode-spread c (one h) rest = ap (λ l. l ++ rest) (encode_one c h) ∙ ap (λ (x : ℕ). x ∷ rest) (omega arith)
+encode-spread c (two l h) rest = ap (λ l. l ++ rest) (encode_two c l h)
+encode-spread c (three l h) rest = ap (λ l. l ++ rest) (encode_three c l h)
     ∙ ap (λ (x : ℕ). x ∷ next (c / 64) ∷ next c ∷ rest) (omega arith)
-encode-spread c (four l) rest =
-    ap (λ l. l ++ rest) (cond-false _ _ _ (le-ltb c 128 (omega arith))
-    ∙ cond-false _ _ _ (le-ltb c 2048 (omega arith)) ∙ cond-false _ _ _ (le-ltb c 65536 l))
+encode-spread c (four l) rest = ap (λ l. l ++ rest) (encode_four c l)
     ∙ ap₂ (λ (x y : ℕ). x ∷ y ∷ next (c / 64) ∷ next c ∷ rest) (omega arith) (omega arith)
 
 -- the lesser of two characters has fewer bytes and a lesser first byte, or as many bytes
