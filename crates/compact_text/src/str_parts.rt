@@ -93,26 +93,22 @@ pub fn split_last(text: &str) -> Option<(usize, char)>
     if len == 0 {
         return None;
     }
-    let at = len - 1;
-    let byte = bytes[at];
+    let byte = bytes[len - 1];
     if byte < 0x80 {
-        return Some((at, char::from(byte)));
+        return Some((len - 1, char::from(byte)));
     }
     let code = u32::from(byte) % 64;
-    let at = len - 2;
-    let byte = bytes[at];
+    let byte = bytes[len - 2];
     if byte >= FIRST_BYTE {
-        return Some((at, of_code(u32::from(byte) % 32 * 64 + code)));
+        return Some((len - 2, of_code(u32::from(byte) % 32 * 64 + code)));
     }
     let code = u32::from(byte) % 64 * 64 + code;
-    let at = len - 3;
-    let byte = bytes[at];
+    let byte = bytes[len - 3];
     if byte >= FIRST_BYTE {
-        return Some((at, of_code(u32::from(byte) % 16 * 4096 + code)));
+        return Some((len - 3, of_code(u32::from(byte) % 16 * 4096 + code)));
     }
     let code = u32::from(byte) % 64 * 4096 + code;
-    let at = len - 4;
-    Some((at, of_code(u32::from(bytes[at]) % 8 * 262144 + code)))
+    Some((len - 4, of_code(u32::from(bytes[len - 4]) % 8 * 262144 + code)))
 }
 
 /// Returns the character of a code.
