@@ -38,10 +38,7 @@ pub fn place_of(words: &[CompactString], word: &CompactString) -> Result<usize, 
         (λ w. text_cmp w word.now ≡ Ordering.Greater) words.now) }
 {
     sorted_row_is_searchable(words, word);
-    match words.binary_search(word) {
-        Ok(place) => Ok(place),
-        Err(place) => Err(place),
-    }
+    words.binary_search(word)
 }
 
 /// Counts a word.

@@ -49,10 +49,7 @@ pub fn append_note(
     let Ok(entry) = notes.entry(id) else {
         return Err(AllocError);
     };
-    match entry.or_default().push_str(text) {
-        Ok(()) => Ok(()),
-        Err(_) => Err(AllocError),
-    }
+    Ok(entry.or_default().push_str(text)?)
 }
 
 /// Converts bytes to a value, reusing the buffer. Returns bytes that are not valid UTF-8.

@@ -16,10 +16,7 @@ pub fn finished_line(alloc: Global, first: &str, second: &str) -> Result<String,
 {
     let mut line = CompactString::new(alloc, first)?;
     line.push_str(second)?;
-    match line.into_string() {
-        Ok(text) => Ok(text),
-        Err(back) => Err(back.error),
-    }
+    Ok(line.into_string()?)
 }
 
 /// Converts a line to bytes, or returns it if allocation fails, which it never does for a line on the heap.

@@ -123,10 +123,8 @@ pub fn number_and_name(title: &CompactString) -> Option<(&str, &str)>
     ensures { IfSome result (λ parts.
         title.now.text ≡ text_of parts.0.now ++ codes "§" ++ text_of parts.1.now) }
 {
-    match title.find('§') {
-        Some(at) => Some((&title[..at], &title[at + '§'.len_utf8()..])),
-        None => None,
-    }
+    let at = title.find('§')?;
+    Some((&title[..at], &title[at + '§'.len_utf8()..]))
 }
 
 /// Splits a `&str` at the first arrow.
@@ -142,10 +140,8 @@ pub fn sides_of_dash(line: &str) -> Option<(&str, &str)>
     ensures { IfSome result (λ parts.
         text_of line.now ≡ text_of parts.0.now ++ codes "–" ++ text_of parts.1.now) }
 {
-    match line.find('–') {
-        Some(at) => Some((&line[..at], &line[at + '–'.len_utf8()..])),
-        None => None,
-    }
+    let at = line.find('–')?;
+    Some((&line[..at], &line[at + '–'.len_utf8()..]))
 }
 
 /// Strips the mark from a name.

@@ -52,8 +52,7 @@ impl<P: Policy> Repr<P> {
         if capacity > MAX_CAPACITY {
             return Err(AllocError);
         }
-        let heap = HeapBuffer::copy_of(alloc, text, capacity)?;
-        Ok(heap)
+        HeapBuffer::copy_of(alloc, text, capacity)
     }
 
     /// Creates a value from a string literal: inline up to 24 bytes, otherwise by reference.

@@ -48,10 +48,7 @@ impl PolicyString<Standard> {
         if !utf16::is_utf16(units) {
             return Err(FromUtf16Error::Utf16(Utf16Error));
         }
-        match Self::from_utf16_lossy(alloc, units) {
-            Ok(value) => Ok(value),
-            Err(error) => Err(FromUtf16Error::Reserve(error)),
-        }
+        Ok(Self::from_utf16_lossy(alloc, units)?)
     }
 
     /// Converts UTF-16 units to a string, replacing each unpaired surrogate with U+FFFD. The result is inline up to 24
@@ -183,10 +180,7 @@ fn from_utf16_bytes(
     if !utf16_bytes::is_utf16(order, bytes) {
         return Err(FromUtf16Error::Utf16(Utf16Error));
     }
-    match from_utf16_bytes_lossy(alloc, order, bytes) {
-        Ok(value) => Ok(value),
-        Err(error) => Err(FromUtf16Error::Reserve(error)),
-    }
+    Ok(from_utf16_bytes_lossy(alloc, order, bytes)?)
 }
 
 /// Converts pairs of bytes, replacing what is invalid with U+FFFD.

@@ -49,10 +49,7 @@ impl PolicyString<Standard> {
         ensures cause { IfErr result (IsUtf8Refusal bytes.now) }
     {
         match utf8::validate(bytes) {
-            Ok(text) => match Self::new(alloc, text) {
-                Ok(value) => Ok(value),
-                Err(error) => Err(FromUtf8Error::Reserve(error)),
-            },
+            Ok(text) => Ok(Self::new(alloc, text)?),
             Err(error) => Err(FromUtf8Error::Utf8 {
                 valid_up_to: error.valid_up_to,
                 error_len: error.error_len,

@@ -163,9 +163,6 @@ impl<'a, P: Policy> FromIterator<&'a char> for PolicyString<P> {
         // As `from_texts`.
         ensures { Collects (⟦<U as Items>⟧.run references) (map (λ c. c.now)) result }
     {
-        match collect_elements(alloc, references) {
-            Ok(value) => Ok(value),
-            Err(ReserveError) => Err(AllocError),
-        }
+        Ok(collect_elements(alloc, references)?)
     }
 }

@@ -50,10 +50,8 @@ impl<P: Policy> PolicyString<P> {
         // Returns a JSON string of the text. When it succeeds is tested, not proved.
         ensures { IfOk result (λ v. json_view v ≡ json_string (utf8 self.now.text)) }
     {
-        match String::from_str(self.allocator(), self.as_str()) {
-            Ok(text) => Ok(Value::String(text)),
-            Err(_) => Err(ReserveError),
-        }
+        let text = String::from_str(self.allocator(), self.as_str())?;
+        Ok(Value::String(text))
     }
 
     /// Returns a copy of the text of a JSON string, as by `new`.
