@@ -52,10 +52,7 @@ pub fn report_case(holds: bool, ration: &mut Ration, faults: &mut Faults, name: 
 
 /// Converts a box, or returns it if allocation fails.
 pub fn unboxed(alloc: Global, text: BoxedStr) -> Result<CompactString, BoxedStr> {
-    match CompactString::from_boxed_str(alloc, text) {
-        Ok(value) => Ok(value),
-        Err(back) => Err(back.value),
-    }
+    CompactString::from_boxed_str(alloc, text).map_err(|back| back.value)
 }
 
 /// Returns `true` if a box is returned when allocation fails, and copied when it is granted.

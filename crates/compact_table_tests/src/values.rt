@@ -148,10 +148,7 @@ fn granted_and_cut(
     len: usize,
     kept: usize,
 ) -> Option<CompactString> {
-    match granted(ration, alloc, allocation, len) {
-        Some(value) => Some(cut(value, kept)),
-        None => None,
-    }
+    Some(cut(granted(ration, alloc, allocation, len)?, kept))
 }
 
 /// Makes an empty value with this capacity, granting its allocation.

@@ -74,10 +74,8 @@ pub fn split_first(text: &str) -> Option<(char, usize)>
         × ((rest : List ℕ) × (text_of text.now ≡ first.0 ∷ rest))) }
 {
     let mut after = text.chars();
-    match after.next() {
-        Some(character) => Some((character, text.len() - after.as_str().len())),
-        None => None,
-    }
+    let character = after.next()?;
+    Some((character, text.len() - after.as_str().len()))
 }
 
 /// Returns where the last character begins, and the character, or `None` if the text is empty. Reads each of its bytes

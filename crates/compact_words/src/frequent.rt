@@ -31,8 +31,7 @@ pub fn frequent_words(
         return Err(InternError::Reserve(ReserveError));
     };
     let table = table_of(alloc, &names, &ranks, most)?;
-    let lines = aligned_rows(alloc, &table)?;
-    Ok(lines)
+    Ok(aligned_rows(alloc, &table)?)
 }
 
 /// Returns the records of the first `most` entries. Never fails if there are none.

@@ -89,10 +89,8 @@ impl PolicyString<Standard> {
             let mut buffer = [0; INLINE_CAPACITY];
             return Self::from_utf8_unchecked(alloc, read_short(buf, &mut buffer));
         }
-        match read_long(alloc, buf) {
-            Ok(bytes) => Ok(Self::from(unsafe { String::from_utf8_unchecked(bytes) })),
-            Err(error) => Err(error),
-        }
+        let bytes = read_long(alloc, buf)?;
+        Ok(Self::from(unsafe { String::from_utf8_unchecked(bytes) }))
     }
 }
 

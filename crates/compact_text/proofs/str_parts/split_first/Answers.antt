@@ -4,10 +4,10 @@ use lib.Utf8.{encode}
 use Rattle.compact_text.specs.Text.{text_of}
 use Rattle.compact_text.proofs.str_parts.split_first.Goals as goal
 
-pub returns-in-Some : goal.returns-in-Some
-returns-in-Some c =
-    let first = c.in-Some.character in
-    let split = sym c.chars-after.ensures.rest ∙ c.in-Some.ensures.steps.0 in (
+pub returns : goal.returns
+returns c =
+    let first = c.in_ok-character.character in
+    let split = sym c.chars-after.ensures.rest ∙ c.in_ok-character.ensures.steps.0 in (
       omega (
         arith,
         ap length split,
