@@ -7,9 +7,6 @@ ghost use Rattle.std.specs.Int.{w32, to_le_bytes};
 ghost use Rattle.compact_text.specs.Text.{text_of};
 ghost use Rattle.compact_text.specs.Cut.{IsBoundary, IsCharAt, is_boundary, text_before, text_after, substring, CutIsBeforeAndAfter};
 
-/// The least first byte of a character of several bytes.
-const FIRST_BYTE: u8 = 0xC0;
-
 /// Returns the part before a boundary.
 #[inline]
 pub fn prefix(text: &str, index: usize) -> &str
@@ -79,7 +76,7 @@ pub fn split_first(text: &str) -> Option<(char, usize)>
 }
 
 /// Returns where the last character begins, and the character, or `None` if the text is empty. Reads each of its bytes
-/// once, from the last one back.
+/// once, from the last one back to the first, which is below 80 or from C0 on.
 #[inline]
 pub fn split_last(text: &str) -> Option<(usize, char)>
     ensures { MatchOption result (text_of text.now ≡ [])
@@ -97,16 +94,17 @@ pub fn split_last(text: &str) -> Option<(usize, char)>
     }
     let code = u32::from(byte) % 64;
     let byte = bytes[len - 2];
-    if byte >= FIRST_BYTE {
+    if byte >= 0xC0 {
         return Some((len - 2, of_code(u32::from(byte) % 32 * 64 + code)));
     }
     let code = u32::from(byte) % 64 * 64 + code;
     let byte = bytes[len - 3];
-    if byte >= FIRST_BYTE {
+    if byte >= 0xC0 {
         return Some((len - 3, of_code(u32::from(byte) % 16 * 4096 + code)));
     }
     let code = u32::from(byte) % 64 * 4096 + code;
-    Some((len - 4, of_code(u32::from(bytes[len - 4]) % 8 * 262144 + code)))
+    let byte = bytes[len - 4];
+    Some((len - 4, of_code(u32::from(byte) % 8 * 262144 + code)))
 }
 
 /// Returns the character of a code.

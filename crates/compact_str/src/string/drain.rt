@@ -1,5 +1,5 @@
 //! A draining iterator.
-ghost use Rattle.std.specs.Prelude.{◌≡◌, ℕ, ◌+◌, ◌≤◌, List, [], ◌∷◌, length, IfSome, IfOk, IsOk, OnErr, MatchOption};
+ghost use Rattle.std.specs.Prelude.{◌≡◌, ℕ, ◌≤◌, List, [], ◌∷◌, length, IfSome, IfOk, IsOk, OnErr, MatchOption};
 ghost use Rattle.std.specs.Char.{len_utf8};
 ghost use Rattle.std.specs.Borrow.{sem, RestsIfErr};
 ghost use Rattle.compact_str.specs.Words.{size, utf8, text_of, IsOwned, INLINE_CAPACITY, PlacedFor, AllocatesFor, owned};
@@ -146,21 +146,8 @@ impl<P: Policy> Drain<'_, P> {
     }
 }
 
-/// Returns the position after a character that ends by `end`. The compiler does not merge the two additions, so one of
-/// them has a constant.
-#[inline(always)]
-fn after(position: usize, width: usize, end: usize) -> usize
-    requires { position + width ≤ end }
-    ensures { result ≡ position + width }
-{
-    if width == 1 {
-        return position + 1;
-    }
-    position.saturating_add(width)
-}
-
 impl<P: Policy> Iterator for Drain<'_, P> {
-    ghost use Rattle.std.specs.Prelude.{◌/◌, Some};
+    ghost use Rattle.std.specs.Prelude.{◌+◌, ◌/◌, Some};
     ghost use Rattle.std.specs.Iterator.{at_most, UpTo};
     ghost use Rattle.std.specs.Iterator.SizeHint.{IsWithinCount};
     ghost use Rattle.compact_str.specs.Drain.{DrainsFront, drain_rest};
@@ -174,7 +161,7 @@ impl<P: Policy> Iterator for Drain<'_, P> {
     #[inline(always)]
     fn next(&mut self) -> Option<char> {
         let (character, width) = self.first()?;
-        self.front = after(self.front, width, self.back);
+        self.front += width;
         Some(character)
     }
 
