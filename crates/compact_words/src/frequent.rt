@@ -31,7 +31,8 @@ pub fn frequent_words(
         return Err(InternError::Reserve(ReserveError));
     };
     let table = table_of(alloc, &names, &ranks, most)?;
-    Ok(aligned_rows(alloc, &table)?)
+    let lines = aligned_rows(alloc, &table)?;
+    Ok(lines)
 }
 
 /// Returns the records of the first `most` entries. Never fails if there are none.
