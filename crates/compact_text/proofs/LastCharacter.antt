@@ -27,11 +27,13 @@ Decoded bytes a b d e = (a < 128 → IsLast bytes 1 a)
     × (d < 192 → (4 ≤ length bytes)
     × IsLast bytes 4 (e % 8 * 262144 + (d % 64 * 4096 + (b % 64 * 64 + a % 64))))))
 
+-- the bytes are a front and those of c
 record Ends (bytes front : List ℕ) (c : ℕ) : Type 0 where
   valid : IsUtf8 front
   scalar : IsScalar c
   parts : bytes ≡ front ++ encode c
 
+-- a text that is not empty ends with a character
 ended : (cs : List ℕ) → scalars cs ≡ true → 0 < length (encodes cs) → (front : List ℕ) × (c : ℕ)
     × Ends (encodes cs) front c
 ended [] valid some = absurd (omega (arith, some))
@@ -63,6 +65,7 @@ from_end bytes front ws k e h =
     (omega (arith, length-append front ws, h))
     ∙ ap (λ i. slice_index_or ws i 0) (omega (arith, length-append front ws, h))
 
+-- where that one begins
 is_last : (bytes front : List ℕ) (k c code : ℕ) → IsUtf8 bytes → Ends bytes front c → length (encode c) ≡ k
     → code ≡ c → IsLast bytes k code
 is_last bytes front k c code u h e value =
@@ -77,6 +80,7 @@ is_last bytes front k c code u h e value =
       boundary = (text_of front, c ∷ [], record { parts = whole; position = position });
     }
 
+-- its width, from which each byte is known
 by_width : (bytes front : List ℕ) (c : ℕ) → IsUtf8 bytes → Ends bytes front c → Decoded bytes
     (slice_index_or bytes (length bytes - 1) 0) (slice_index_or bytes (length bytes - 2) 0)
     (slice_index_or bytes (length bytes - 3) 0) (slice_index_or bytes (length bytes - 4) 0)
@@ -141,6 +145,7 @@ by_width bytes front c u h =
           )
     ]
 
+-- the fact by which `split_last` is proved
 pub decoded : (bytes : List ℕ) → IsUtf8 bytes → 0 < length bytes → Decoded bytes
     (slice_index_or bytes (length bytes - 1) 0) (slice_index_or bytes (length bytes - 2) 0)
     (slice_index_or bytes (length bytes - 3) 0) (slice_index_or bytes (length bytes - 4) 0)

@@ -76,7 +76,7 @@ pub fn split_first(text: &str) -> Option<(char, usize)>
 }
 
 /// Returns where the last character begins, and the character, or `None` if the text is empty. Reads each of its bytes
-/// once, from the last one back to the first, which is below 80 or from C0 on.
+/// once, from the last one back.
 #[inline]
 pub fn split_last(text: &str) -> Option<(usize, char)>
     ensures { MatchOption result (text_of text.now ≡ [])
