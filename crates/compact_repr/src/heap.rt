@@ -3,8 +3,8 @@
 
 ghost use Rattle.std.specs.Prelude.{◌≡◌, ◌+◌, ◌-◌, ◌≤◌, ◌<◌, ◌^◌, [], ◌∷◌, ◌++◌, length, false, IfOk, OnOk, OnErr, IsTrue, ◌↔◌, MatchOption};
 ghost use Rattle.std.specs.String.{string_bytes, string_capacity};
-ghost use Rattle.std.specs.Char.{len_utf8};
 ghost use Rattle.compact_repr.specs.Words.{size, utf8, text_of, IsText, IsBoundary, text_before, substring, replaced_text};
+ghost use Rattle.compact_text.specs.Text.{room_for_char};
 ghost use Rattle.compact_text.specs.Case.{text_in_case};
 ghost use Rattle.compact_text.specs.Retain.{RetainsCharsTo};
 
@@ -164,7 +164,7 @@ impl HeapBuffer {
     /// nothing.
     #[inline(always)]
     pub fn try_push(&mut self, character: char) -> bool
-        ensures fits { IsTrue result → size self.old.text + len_utf8 character ≤ self.old.capacity }
+        ensures fits { IsTrue result ↔ (size self.old.text + room_for_char character ≤ self.old.capacity) }
         ensures pushed { IsTrue result
             → self.new ≡ record {
               text = self.old.text ++ character ∷ [];

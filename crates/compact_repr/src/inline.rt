@@ -2,7 +2,7 @@
 #![tactic(auto, using(crate::proofs::PackedFacts::packed_facts))]
 
 ghost use Rattle.std.specs.Prelude.{◌≡◌, ◌+◌, ◌-◌, ◌≤◌, ℕ, List, [], ◌∷◌, ◌++◌, length, false, IsTrue, ◌↔◌, MatchOption};
-ghost use Rattle.std.specs.Char.{len_utf8};
+ghost use Rattle.compact_text.specs.Text.{room_for_char};
 ghost use Rattle.compact_repr.specs.Words.{INLINE_CAPACITY, size, utf8, text_of, IsText, IsBoundary, text_before, replaced_text};
 ghost use Rattle.compact_repr.specs.Packed.{IsPackedFor};
 ghost use Rattle.compact_text.specs.Case.{text_in_case};
@@ -102,7 +102,7 @@ impl InlineBuffer {
     /// nothing.
     #[inline(always)]
     pub fn try_push(&mut self, character: char) -> bool
-        ensures fits { IsTrue result → size self.old + len_utf8 character ≤ INLINE_CAPACITY }
+        ensures fits { IsTrue result ↔ (size self.old + room_for_char character ≤ INLINE_CAPACITY) }
         ensures pushed { IsTrue result → self.new ≡ self.old ++ character ∷ [] }
         ensures full { result ≡ false → self.new ≡ self.old }
     {

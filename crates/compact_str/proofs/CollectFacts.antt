@@ -2,6 +2,7 @@
 use Rattle.std.proofs.Common.{◌≡◌, ℕ, List, ◌++◌, take, append_assoc, append-nil, sym, subst}
 use Rattle.std.proofs.lemmas.Str.{IsUtf8-append}
 use Rattle.std.specs.Str.{IsUtf8}
+use Rattle.compact_text.proofs.RetainLemmas.{utf8-pushed, text_of-pushed}
 use Rattle.compact_text.proofs.TextFacts.{text_facts}
 use Rattle.compact_text.proofs.Texts.{size-front}
 use Rattle.compact_str.proofs.SizePlacements.{by_size-append, by_size-empty, allocates-over, append-moved}
@@ -18,4 +19,4 @@ written-after bytes written piece n m before valid same =
     subst IsUtf8 (sym same) (IsUtf8-append (take n bytes) piece before valid)
 
 -- a block of pieces
-pub ruleset block_facts = (text_facts, size-front, written-after)
+pub ruleset block_facts = (text_facts, size-front, written-after, utf8-pushed, text_of-pushed)

@@ -1,5 +1,5 @@
 //! A builder that collects short pieces on the stack before it appends them.
-ghost use Rattle.std.specs.Prelude.{◌≡◌, ◌<◌, [], ◌∷◌, ◌++◌, false, IsTrue, OnOk, OnErr, IfOk, IfSome};
+ghost use Rattle.std.specs.Prelude.{◌≡◌, ◌<◌, [], ◌∷◌, ◌++◌, false, IsTrue, IsOk, OnOk, OnErr, IfOk, IfSome};
 ghost use Rattle.compact_str.specs.Words.{size, text_of, PlacedFor, room_to_append, INLINE_CAPACITY};
 ghost use Rattle.compact_str.specs.Room.{IsPlacedBySize};
 ghost use Rattle.compact_str.specs.Output.{AppendsUtf8};
@@ -280,9 +280,12 @@ impl<P: Policy, const N: usize> fmt::Write for Builder<P, N> {
     ///
     /// # Errors
     ///
-    /// `fmt::Error` if allocation fails.
+    /// `fmt::Error` if allocation fails. Never fails up to 24 bytes.
     #[inline]
-    fn write_str(&mut self, text: &str) -> fmt::Result {
+    fn write_str(&mut self, text: &str) -> fmt::Result
+        ensures ok { IsOk result → AppendsUtf8 self.old text.now self.new }
+        ensures err { OnErr result (INLINE_CAPACITY < size (self.old ++ text_of text.now)) }
+    {
         if self.block.try_copy_str(text) {
             return Ok(());
         }

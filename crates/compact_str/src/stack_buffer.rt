@@ -1,6 +1,7 @@
 //! Text on the stack, which is collected before it is appended to a value.
 ghost use Rattle.std.specs.Prelude.{◌≡◌, ◌+◌, ◌≤◌, [], ◌∷◌, ◌++◌, length, false, IfSome, IsSome, IsTrue, ◌↔◌};
 ghost use Rattle.compact_str.specs.Words.{size, utf8, text_of};
+ghost use Rattle.compact_text.specs.Text.{room_for_char};
 
 use compact_text::slices;
 use std::marker::Model;
@@ -147,6 +148,7 @@ impl<const N: usize> StackBuffer<N> {
     /// Appends `character` if it is ASCII and fits, or if four bytes are free; otherwise returns `false`.
     #[inline]
     pub fn try_push(&mut self, character: char) -> bool
+        ensures fits { IsTrue result ↔ (size self.old + room_for_char character ≤ N) }
         ensures pushed { IsTrue result → self.new ≡ self.old ++ character ∷ [] }
         ensures full { result ≡ false → self.new ≡ self.old }
     {

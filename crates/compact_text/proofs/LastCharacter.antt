@@ -65,7 +65,7 @@ from_end bytes front ws k e h =
     (omega (arith, length-append front ws, h))
     ∙ ap (λ i. slice_index_or ws i 0) (omega (arith, length-append front ws, h))
 
--- where that one begins
+-- so its last k bytes are those of the character that it ends with
 is_last : (bytes front : List ℕ) (k c code : ℕ) → IsUtf8 bytes → Ends bytes front c → length (encode c) ≡ k
     → code ≡ c → IsLast bytes k code
 is_last bytes front k c code u h e value =
@@ -80,7 +80,7 @@ is_last bytes front k c code u h e value =
       boundary = (text_of front, c ∷ [], record { parts = whole; position = position });
     }
 
--- its width, from which each byte is known
+-- by how many bytes the character takes: each byte of its encoding is known then
 by_width : (bytes front : List ℕ) (c : ℕ) → IsUtf8 bytes → Ends bytes front c → Decoded bytes
     (slice_index_or bytes (length bytes - 1) 0) (slice_index_or bytes (length bytes - 2) 0)
     (slice_index_or bytes (length bytes - 3) 0) (slice_index_or bytes (length bytes - 4) 0)

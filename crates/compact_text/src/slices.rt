@@ -1,8 +1,9 @@
 //! Editing byte slices by whole-word loads and stores.
 #![tactic(auto, using(crate::proofs::TextFacts::text_facts, crate::proofs::Facts::slices_facts))]
 
-ghost use Rattle.std.specs.Prelude.{◌≡◌, ◌+◌, ◌-◌, ◌≤◌, [], ◌++◌, length, take, drop, None, IfSome, replicate};
+ghost use Rattle.std.specs.Prelude.{◌≡◌, ◌+◌, ◌-◌, ◌≤◌, [], ◌++◌, length, take, drop, None, IfSome, IsSome, ◌↔◌, replicate};
 ghost use Rattle.std.specs.Char.{len_utf8, encode_utf8};
+ghost use Rattle.compact_text.specs.Text.{room_for_char};
 ghost use Rattle.std.specs.List.{replace_range};
 ghost use lib.Seq.{paste};
 
@@ -94,6 +95,7 @@ pub fn try_write_char(slice: &mut [u8], at: usize, character: char) -> Option<us
         (λ end. take end slice.new ≡ take at slice.old ++ encode_utf8 character) }
     ensures end { IfSome result (λ end. end ≡ at + len_utf8 character) }
     ensures within { IfSome result (λ end. end ≤ length slice.old) }
+    ensures fits { IsSome result ↔ (at + room_for_char character ≤ length slice.old) }
     ensures full { result ≡ None → slice.new ≡ slice.old }
 {
     if character.is_ascii() {

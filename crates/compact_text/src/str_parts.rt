@@ -95,21 +95,21 @@ pub fn split_last(text: &str) -> Option<(usize, char)>
     let code = u32::from(byte) % 64;
     let byte = bytes[len - 2];
     if byte >= 0xC0 {
-        return Some((len - 2, of_code(u32::from(byte) % 32 * 64 + code)));
+        return Some((len - 2, char_from_code(u32::from(byte) % 32 * 64 + code)));
     }
     let code = u32::from(byte) % 64 * 64 + code;
     let byte = bytes[len - 3];
     if byte >= 0xC0 {
-        return Some((len - 3, of_code(u32::from(byte) % 16 * 4096 + code)));
+        return Some((len - 3, char_from_code(u32::from(byte) % 16 * 4096 + code)));
     }
     let code = u32::from(byte) % 64 * 4096 + code;
     let byte = bytes[len - 4];
-    Some((len - 4, of_code(u32::from(byte) % 8 * 262144 + code)))
+    Some((len - 4, char_from_code(u32::from(byte) % 8 * 262144 + code)))
 }
 
 /// Returns the character of a code.
 #[inline(always)]
-fn of_code(code: u32) -> char
+fn char_from_code(code: u32) -> char
     requires { IsScalar code }
     ensures { result ≡ code }
 {

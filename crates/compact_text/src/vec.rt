@@ -3,10 +3,11 @@
 //! The loops move the vector out of its reference first.
 #![tactic(auto, using(crate::proofs::TextFacts::text_facts, crate::proofs::Facts::vec_facts))]
 
-ghost use Rattle.std.specs.Prelude.{◌≡◌, ◌+◌, ◌-◌, ◌<◌, ◌≤◌, [], ◌∷◌, ◌++◌, length, take, drop, replicate, IsTrue, false, IfSome, None};
-ghost use Rattle.std.specs.Char.{len_utf8, encode_utf8};
+ghost use Rattle.std.specs.Prelude.{◌≡◌, ◌+◌, ◌-◌, ◌<◌, ◌≤◌, [], ◌∷◌, ◌++◌, length, take, drop, replicate, IsTrue, ◌↔◌, false, IfSome, None};
+ghost use Rattle.std.specs.Char.{encode_utf8};
 ghost use Rattle.std.specs.List.{replace_range};
 ghost use Rattle.std.specs.Vec.{vec_len, vec_capacity};
+ghost use Rattle.compact_text.specs.Text.{room_for_char};
 
 use crate::slices::{self, array_at};
 use crate::str_parts::encoded;
@@ -42,7 +43,7 @@ pub fn append_slice(bytes: &mut Vec<u8>, source: &[u8])
 /// nothing.
 #[inline(always)]
 pub fn try_append_char(bytes: &mut Vec<u8>, character: char) -> bool
-    ensures fits { IsTrue result → vec_len bytes.old + len_utf8 character ≤ vec_capacity bytes.old }
+    ensures fits { IsTrue result ↔ (vec_len bytes.old + room_for_char character ≤ vec_capacity bytes.old) }
     ensures items { IsTrue result → bytes.new.items ≡ bytes.old.items ++ encode_utf8 character }
     ensures capacity { vec_capacity bytes.new ≡ vec_capacity bytes.old }
     ensures full { result ≡ false → bytes.new ≡ bytes.old }

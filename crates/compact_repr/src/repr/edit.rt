@@ -1,6 +1,7 @@
 //! Edits in place, which never allocate and never move the text to another place.
 ghost use Rattle.std.specs.Prelude.{◌≡◌, ◌+◌, ◌-◌, ◌^◌, ◌≤◌, ◌<◌, [], ◌∷◌, ◌++◌, length, nat_eq, ◌||◌, IsTrue, false, ◌↔◌, IsSome, IfSome, None};
 ghost use Rattle.std.specs.Char.{len_utf8};
+ghost use Rattle.compact_text.specs.Text.{room_for_char};
 ghost use Rattle.compact_repr.specs.Words.{size, text_of, IsBoundary, IsCharAt, replaced_text, placed_text, IsOwned, fits_in_place, clear, truncate, zeroize, PopsChar};
 ghost use Rattle.compact_text.specs.Case.{text_in_case};
 ghost use Rattle.compact_text.specs.Retain.{RetainsCharsTo};
@@ -28,11 +29,11 @@ impl<P: Policy> Repr<P> {
         }
     }
 
-    /// Appends `character` if the value is owned and has room, for any character unless this one is ASCII. Returns
+    /// Appends `character` if the value is owned, and has room for any character or this one is ASCII and fits. Returns
     /// whether it did; otherwise changes nothing.
     #[inline(always)]
     pub fn try_push(&mut self, character: char) -> bool
-        ensures fits { IsTrue result → IsTrue (fits_in_place self.old (len_utf8 character)) }
+        ensures fits { result ≡ fits_in_place self.old (room_for_char character) }
         ensures pushed { IsTrue result
             → self.new ≡ placed_text (self.old.text ++ character ∷ []) self.old.placement }
         ensures full { result ≡ false → self.new ≡ self.old }

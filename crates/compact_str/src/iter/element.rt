@@ -1,5 +1,5 @@
 //! Items to collect or append: texts and characters.
-ghost use Rattle.std.specs.Prelude.{◌≡◌, ℕ, ◌<◌, List, ◌++◌, OnOk, OnErr, IsOk, IfSome, IsTrue, false};
+ghost use Rattle.std.specs.Prelude.{◌≡◌, ℕ, ◌+◌, ◌<◌, ◌≤◌, List, ◌++◌, OnOk, OnErr, IsOk, IfSome, IsTrue, false};
 ghost use Rattle.compact_str.specs.Words.{INLINE_CAPACITY, size, text_of, PlacedFor, AllocatesFor, room_to_append, HasRoomFor};
 ghost use Rattle.compact_str.specs.Collect.{char_text};
 
@@ -32,8 +32,9 @@ pub trait Element: Drop {
             (AllocatesFor value.old (room_to_append (size (text self.now)))) }
         ensures err { OnErr result (value.new ≡ value.old) };
 
-    /// Appends the piece to a block, or returns `false` if it may not fit.
+    /// Appends the piece to a block. Takes any piece of at most 64 bytes if 64 are free; otherwise may return `false`.
     fn try_push_to_block(&self, block: &mut StackBuffer<SHOWN>) -> bool
+        ensures room { size (text self.now) ≤ 64 → size block.old + 64 ≤ 240 → IsTrue result }
         ensures pushed { IsTrue result → block.new ≡ block.old ++ text self.now }
         ensures full { result ≡ false → block.new ≡ block.old };
 
