@@ -314,7 +314,7 @@ impl HeapBuffer {
     {
         let capacity = self.bytes.capacity();
         slices::fill_zero(self.bytes.as_mut_slice());
-        vec::append_zeros_each(&mut self.bytes, capacity);
+        vec::append_zeros(&mut self.bytes, capacity);
         self.bytes.clear();
     }
 

@@ -1,7 +1,7 @@
 -- Appended bytes.
 use Rattle.std.proofs.Common.{◌≡◌, ℕ, ◌+◌, ◌-◌, ◌≤◌, List, [], ◌∷◌, ◌++◌, length, take, drop, replicate, ap, sym}
 use Rattle.std.proofs.Common.{◌∙◌, arith, append_assoc}
-use Rattle.std.proofs.lemmas.List.{take-take, take_all, take-replicate, replicate-append-replicate}
+use Rattle.std.proofs.lemmas.List.{take-take, take_all, replicate-append-replicate}
 use Rattle.std.proofs.lemmas.List.{drop-append-le, take-append-le, drop-drop, length-drop}
 use Rattle.std.proofs.Math.Seq.{take-append-add, take-add}
 
@@ -29,15 +29,6 @@ one_more_zero slice first counter le =
     append_assoc slice (replicate (counter - first) 0) (0 ∷ [])
     ∙ ap (λ x. slice ++ x) (replicate-append-replicate (counter - first) 1 0 ∙ ap (λ (n : ℕ). replicate n 0) more)
 
--- of n appended zeros, those within a length are kept
-pub zeros_within : (slice : List ℕ) (old len n : ℕ) → old ≡ length slice → old ≤ len → len ≤ old + n
-    → take len (slice ++ replicate n 0) ≡ slice ++ replicate (len - old) 0
-zeros_within slice old len n e le within =
-    let all : len ≡ length slice + (len - old) = omega arith in
-    ap (λ (j : ℕ). take j (slice ++ replicate n 0)) all
-    ∙ take-append-add slice (replicate n 0) (len - old)
-    ∙ ap (λ x. slice ++ x) (take-replicate (len - old) n 0 (omega arith))
-
 -- one more block of the list itself
 pub one_more_within : (slice : List ℕ) (start at n m : ℕ) → start ≤ at → at + n ≤ length slice → m ≡ at + n - start
     → (slice ++ take (at - start) (drop start slice)) ++ take n (drop at (slice ++ take (at - start) (drop start slice)))
@@ -52,3 +43,17 @@ one_more_within slice start at n m order within e =
     ∙ take-append-le n (drop at slice) added (omega (arith, length-drop at slice))
     ∙ ap (take n) (sym (drop-drop k start slice ∙ ap (λ (j : ℕ). drop j slice) place)) in
     ap (λ (x : List ℕ). (slice ++ added) ++ x) block ∙ one_more slice (drop start slice) k n m more
+
+-- the same, truncated, and then its last n bytes
+pub ends_within : (slice : List ℕ) (start at last n len m : ℕ) → len ≡ length slice → start ≤ last → last ≤ at
+    → last + n ≤ length slice → m ≡ last + n - start
+    → take (len + (last - start)) (slice ++ take (at - start) (drop start slice))
+    ++ take n (drop last (take (len + (last - start)) (slice ++ take (at - start) (drop start slice))))
+    ≡ slice ++ take m (drop start slice)
+ends_within slice start at last n len m count order past within e =
+    let part : take (len + (last - start)) (slice ++ take (at - start) (drop start slice))
+    ≡ slice ++ take (last - start) (drop start slice) =
+    ap (λ (j : ℕ). take (j + (last - start)) (slice ++ take (at - start) (drop start slice))) count
+    ∙ take-append-add slice (take (at - start) (drop start slice)) (last - start)
+    ∙ ap (λ x. slice ++ x) (take-take (last - start) (at - start) (drop start slice) (omega (arith, past))) in
+    ap (λ x. x ++ take n (drop last x)) part ∙ one_more_within slice start last n m order within e

@@ -1,5 +1,5 @@
 -- The rulesets that functions name: the lemmas of a source file, or of some of its functions.
-use Rattle.compact_text.proofs.Appends.{joined_ends, one_more, one_more_within}
+use Rattle.compact_text.proofs.Appends.{joined_ends, one_more, one_more_within, ends_within}
 use Rattle.compact_text.proofs.ByteNumbers.{word_bytes-high, two_reads, number_third, number_second}
 use Rattle.compact_text.proofs.CutLemmas.{boundary-bytes, text_of-take, text_of-drop}
 use Rattle.compact_text.proofs.CutLemmas.{text_of-last, text_before-append}
@@ -35,6 +35,6 @@ pub ruleset character_facts = (chars-nil, IsUtf8-nil, IsUtf8-encode, encode_two,
 
 pub ruleset str_parts_facts = (cut_facts, character_facts, boundary-bytes, nil_from_length, size-text_of, decoded)
 
-pub ruleset vec_facts = (joined_ends, one_more, one_more_within)
+pub ruleset vec_facts = (joined_ends, one_more, one_more_within, ends_within)
 
 pub ruleset words_facts = (shr-shr, word_bytes-high, two_reads, number_third, number_second)

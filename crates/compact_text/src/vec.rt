@@ -219,7 +219,8 @@ pub fn splice(bytes: &mut Vec<u8>, start: usize, end: usize, source: &[u8])
     let old = bytes.len();
     let len = old - (end - start) + source.len();
     if len > old {
-        append_zeros(bytes, len);
+        // Only lengthens the vector; the values are overwritten.
+        append_slice(bytes, &source[end - start..]);
         slices::splice(bytes.as_mut_slice(), old, start, end, source);
     } else {
         slices::splice(bytes.as_mut_slice(), old, start, end, source);
@@ -262,30 +263,10 @@ fn insert_part<const N: usize>(bytes: &mut Vec<u8>, index: usize, source: &[u8])
     restore_vec(bytes, vec);
 }
 
-/// Appends zeros up to a length of `len` bytes: one block if that is enough and has room, otherwise one by one.
-#[inline(always)]
-fn append_zeros(bytes: &mut Vec<u8>, len: usize)
-    requires longer { vec_len bytes.old ≤ len }
-    requires room { len ≤ vec_capacity bytes.old }
-    ensures items { bytes.new.items ≡ bytes.old.items ++ replicate (len - vec_len bytes.old) 0 }
-    ensures len { vec_len bytes.new ≡ len }
-    ensures capacity { vec_capacity bytes.new ≡ vec_capacity bytes.old }
-{
-    let old = bytes.len();
-    if len - old <= BLOCK && BLOCK <= bytes.capacity() - old {
-        let mut vec = take_vec(bytes);
-        append_array::<BLOCK>(&mut vec, [0; BLOCK]);
-        vec.truncate(len);
-        restore_vec(bytes, vec);
-    } else {
-        append_zeros_each(bytes, len);
-    }
-}
-
 /// Appends zeros, one by one, up to a length of `len` bytes.
 #[inline(never)]
 #[tactic(auto, using(crate::proofs::Appends::one_more_zero))]
-pub fn append_zeros_each(bytes: &mut Vec<u8>, len: usize)
+pub fn append_zeros(bytes: &mut Vec<u8>, len: usize)
     requires longer { vec_len bytes.old ≤ len }
     requires room { len ≤ vec_capacity bytes.old }
     ensures items { bytes.new.items ≡ bytes.old.items ++ replicate (len - vec_len bytes.old) 0 }
@@ -309,32 +290,40 @@ pub fn append_within(bytes: &mut Vec<u8>, start: usize, end: usize)
     ensures capacity { vec_capacity bytes.new ≡ vec_capacity bytes.old }
 {
     let mut vec = take_vec(bytes);
-    let middle = append_blocks_within::<BLOCK>(&mut vec, start, end);
-    let last = append_blocks_within::<8>(&mut vec, middle, end);
-    append_blocks_within::<1>(&mut vec, last, end);
+    let count = end - start;
+    if count >= LONG_BLOCK {
+        append_blocks_within::<LONG_BLOCK>(&mut vec, start, end);
+    } else if count >= BLOCK {
+        append_blocks_within::<BLOCK>(&mut vec, start, end);
+    } else if count >= 8 {
+        append_blocks_within::<8>(&mut vec, start, end);
+    } else if count > 0 {
+        append_blocks_within::<1>(&mut vec, start, end);
+    }
     restore_vec(bytes, vec);
 }
 
-/// Appends the part from `start` to `end` in whole blocks of `N` bytes. Returns where the rest of it begins.
+/// Appends the part from `start` to `end`, which has at least `N` bytes, as `append_in_blocks` does.
 #[inline(always)]
-fn append_blocks_within<const N: usize>(vec: &mut Vec<u8>, start: usize, end: usize) -> usize
+fn append_blocks_within<const N: usize>(vec: &mut Vec<u8>, start: usize, end: usize)
     requires some { 0 < N }
-    requires order { start ≤ end }
+    requires least { start + N ≤ end }
     requires within { end ≤ vec_len vec.old }
     requires room { vec_len vec.old + (end - start) ≤ vec_capacity vec.old }
-    ensures items { vec.new.items ≡ vec.old.items ++ take (result - start) (drop start vec.old.items) }
-    ensures len { vec_len vec.new ≡ vec_len vec.old + (result - start) }
+    ensures items { vec.new.items ≡ vec.old.items ++ take (end - start) (drop start vec.old.items) }
     ensures capacity { vec_capacity vec.new ≡ vec_capacity vec.old }
-    ensures most { (start ≤ result) × (result ≤ end) }
-    ensures rest { end - result < N }
 {
+    let len = vec.len();
+    let last = end - N;
     let mut at = start;
-    'copies: while N <= end - at {
+    'copies: while at < last {
         let block = array_at::<N>(vec.as_slice(), at);
         append_array::<N>(vec, block);
         at += N;
     }
-    at
+    vec.truncate(len + (last - start));
+    let block = array_at::<N>(vec.as_slice(), last);
+    append_array::<N>(vec, block);
 }
 
 /// Appends `source`, which has `N` to `2 * N` bytes, as its first `N` and its last `N`, without the overlap twice.
