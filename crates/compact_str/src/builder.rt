@@ -160,8 +160,8 @@ impl<P: Policy, const N: usize> Builder<P, N> {
         self.push_str(encode_char(character, &mut bytes))
     }
 
-    /// Appends the block to the value, and then pushes `text`. A value of a block below 1024 bytes is temporary, so more
-    /// is reserved: up to 1024 bytes in all, or one block after a long text, unless the target's capacity will do.
+    /// Appends the block to the value, and then `text`. The first time reserves more: up to 1024 bytes in all, or one block
+    /// after a long text, unless the target's capacity will do.
     #[cold]
     #[inline(never)]
     fn push_str_slow(&mut self, text: &str) -> Result<(), ReserveError>
@@ -169,18 +169,15 @@ impl<P: Policy, const N: usize> Builder<P, N> {
         ensures err { OnErr result (INLINE_CAPACITY < size (self.old ++ text_of text.now)) }
     {
         self.is_long = true;
-        let more = COLLECTED.saturating_sub(N);
         let len = self.block.as_str().len().saturating_add(text.len());
-        let (first, then) = match self.spare_of_target(len) {
-            Some(spare) => (spare.saturating_add(text.len()), spare),
-            None => (more, more.min(N)),
+        let spare = match self.spare_of_target(len) {
+            Some(spare) => spare,
+            None => COLLECTED.saturating_sub(len).max(N),
         };
-        push_or_reserve(&mut self.value, self.block.as_str(), first)?;
+        let more = spare.saturating_add(text.len());
+        push_or_reserve(&mut self.value, self.block.as_str(), more)?;
         self.block.clear();
-        if self.block.try_push_str(text) {
-            return Ok(());
-        }
-        push_or_reserve(&mut self.value, text, then)
+        push_or_reserve(&mut self.value, text, spare)
     }
 
     /// Returns the target's capacity less `len`, the bytes so far, if they are at least half of it.
