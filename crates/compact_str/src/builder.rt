@@ -160,8 +160,7 @@ impl<P: Policy, const N: usize> Builder<P, N> {
         self.push_str(encode_char(character, &mut bytes))
     }
 
-    /// Appends the block to the value, and then `text`. The first time reserves more: up to 1024 bytes in all, or one block
-    /// after a long text, unless the target's capacity will do.
+    /// Appends the block to the value, and then `text`. The first time also reserves more.
     #[cold]
     #[inline(never)]
     fn push_str_slow(&mut self, text: &str) -> Result<(), ReserveError>
@@ -170,23 +169,20 @@ impl<P: Policy, const N: usize> Builder<P, N> {
     {
         self.is_long = true;
         let len = self.block.as_str().len().saturating_add(text.len());
-        let spare = match self.spare_of_target(len) {
-            Some(spare) => spare,
-            None => COLLECTED.saturating_sub(len).max(N),
-        };
+        let spare = self.spare_after(len);
         let more = spare.saturating_add(text.len());
         push_or_reserve(&mut self.value, self.block.as_str(), more)?;
         self.block.clear();
         push_or_reserve(&mut self.value, text, spare)
     }
 
-    /// Returns the target's capacity less `len`, the bytes so far, if they are at least half of it.
-    fn spare_of_target(&self, len: usize) -> Option<usize> {
-        let spare = self.target_capacity.checked_sub(len)?;
-        if spare > len {
-            return None;
+    /// Returns how many bytes more to reserve after the first `len`: up to the target's capacity if they fill half of it,
+    /// otherwise up to 1024 in all, or one block after a long text.
+    fn spare_after(&self, len: usize) -> usize {
+        match self.target_capacity.checked_sub(len) {
+            Some(spare) if spare <= len => spare,
+            _ => COLLECTED.saturating_sub(len).max(N),
         }
-        Some(spare)
     }
 
     /// Returns the string. Takes `&mut self`, since moving would copy the buffer; the builder must not be used again.
