@@ -32,7 +32,7 @@ REASONS = {
     "place": "each call tests where the text is, inline, on the heap or static, and decodes an inline length",
     "append": "the row first clears a value and appends a text, which tests the place twice; then as `place`",
     "gather": "the length is not known before, so pieces are gathered in a block and then copied",
-    "blocks": "a part of the text is copied by blocks of 32, 8 and 1 bytes, or zeros are written before the bytes",
+    "blocks": "a part of the text is copied by blocks, or the text is lengthened by bytes that are then overwritten",
     "kit": "a function of the kit: its comparison, its validation of short texts, its writer",
     "setup": "what a decoder sets up, of which a short text pays more",
     "faults": "each fault ends a validation, and the next one is set up",
