@@ -18,7 +18,7 @@ const BESIDE: usize = 8;
 const STEP: usize = 16;
 
 /// The largest grant.
-const MAX_SIZE: usize = 2080;
+const MAX_SIZE: usize = 1600;
 
 /// The blocks of a step kept for grants, for the whole table: a granted block does not come back. Most allocations are
 /// small.
