@@ -331,38 +331,13 @@ join-next f separator xs x =
     join-append f separator xs x []
     ∙ ap (λ l. (join separator f xs ++ between separator xs) ++ l) (join-one f separator x)
 
-pub join-more : {T : Type 0} (z : List ℕ) (f : T → List ℕ) (separator : List ℕ) (x : T) (xs : List T) (y : T)
-    → z ++ join separator f (x ∷ (xs ++ y ∷ [])) ≡ ((z ++ join separator f (x ∷ xs)) ++ separator) ++ f y
-join-more z f separator x xs y =
-    let so_far = join separator f (x ∷ xs) in
-    ap (λ l. z ++ l) (join-next f separator (x ∷ xs) y) ∙ sym (append_assoc z (so_far ++ separator) (f y))
-    ∙ ap (λ l. l ++ f y) (sym (append_assoc z so_far separator))
-
--- z is the text of the items xs and the separator before x, and r the outcome of x and those after it
-pub later : {S T E : Type 0} (steps : S → Option T → S → Type 0) (f : T → List ℕ) (separator : List ℕ) (s t j : S)
-    (xs : List T) (x : T) (z : List ℕ) (r : Result PlacedText E) → Yields steps s xs t → steps t (Some x) j
-    → z ≡ join separator f xs ++ between separator xs
-    → IfOk r (λ v. (ys : List T) × Drains steps j ys × (v.text ≡ z ++ join separator f (x ∷ ys)))
-    → OnErr r (PassesInline steps (λ ys. z ++ join separator f (x ∷ ys)) j)
-    → IfOk r (λ v. (zs : List T) × Drains steps s zs × (v.text ≡ join separator f zs))
-    × OnErr r (PassesInline steps (join separator f) s)
-later steps f separator s t j xs x z (Ok v) came next same (ys, d, e) h = (
-  (
-    xs ++ x ∷ ys,
-    (d.0, (d.1.0, yields-through steps s t j d.1.0 xs x ys came next d.1.1, d.1.2)),
-    e ∙ ap (λ l. l ++ join separator f (x ∷ ys)) same ∙ sym (join-append f separator xs x ys),
-  ),
-  tt,
-)
-later steps f separator s t j xs x z (Err _) came next same h (ys, u, more, o) = (
-  tt,
-  (
-    xs ++ x ∷ ys,
-    u,
-    yields-through steps s t j u xs x ys came next more,
-    rw (join-append f separator xs x ys, ← same) o,
-  ),
-)
+-- z is the text of the items xs and the separator before x, with which they pass 24 bytes
+pub passes-joined : {S T : Type 0} (steps : S → Option T → S → Type 0) (f : T → List ℕ) (separator : List ℕ)
+    (s t u : S) (xs : List T) (x : T) (z : List ℕ) → Yields steps s xs t → steps t (Some x) u
+    → z ≡ join separator f xs ++ between separator xs → 24 < size (z ++ f x)
+    → PassesInline steps (join separator f) s
+passes-joined steps f separator s t u xs x z came next same h =
+    passes steps (join separator f) s t u xs x came next (rw (join-next f separator xs x, ← same) h)
 
 -- all items came, z is their text, and r the outcome of `finish` or `new`
 pub finished : {S T E : Type 0} (steps : S → Option T → S → Type 0) (s t u : S) (read : List T → List ℕ) (xs : List T)

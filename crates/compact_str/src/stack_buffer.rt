@@ -1,54 +1,14 @@
 //! Text on the stack, which is collected before it is appended to a value.
-ghost use Rattle.std.specs.Prelude.{◌≡◌, ◌+◌, ◌≤◌, [], ◌∷◌, ◌++◌, length, false, IfSome, IsSome, IsTrue, ◌↔◌};
+ghost use Rattle.std.specs.Prelude.{◌≡◌, ◌+◌, ◌≤◌, [], ◌∷◌, ◌++◌, length, false, IsTrue, ◌↔◌};
 ghost use Rattle.compact_str.specs.Words.{size, utf8, text_of};
 ghost use Rattle.compact_text.specs.Text.{room_for_char};
 
 use compact_text::slices;
 use std::marker::Model;
 
-/// The capacity of a [`PaddedStr`].
-const PADDED_CAPACITY: usize = 16;
-
-/// The most bytes that `try_push_separated` writes.
-const MAX_SEPARATED_LEN: usize = PADDED_CAPACITY + slices::MAX_SHORT_LEN;
-
-/// A separator of at most 16 bytes, zero-padded so that copies have a fixed size.
-#[derive(Drop)]
-pub struct PaddedStr {
-    bytes: [u8; 16],
-    len: usize,
-}
-
-impl Model for PaddedStr {
-    ghost use Rattle.std.specs.Prelude.{ℕ, List, take, ◌≤◌};
-    ghost use Rattle.std.specs.Str.{IsUtf8};
-    ghost use Rattle.compact_str.specs.Words.{text_of};
-
-    ghost Value = { List ℕ };
-
-    ghost view = { λ p. text_of (take p.len p.bytes) };
-
-    ghost invariant = { λ p. (p.len ≤ 16) × IsUtf8 (take p.len p.bytes) };
-}
-
-impl PaddedStr {
-    /// Copies `text`, or returns `None` if it is longer than 16 bytes.
-    #[inline]
-    pub fn new(text: &str) -> Option<Self>
-        ensures fits { IsSome result ↔ (length text.now ≤ 16) }
-        ensures text { IfSome result (λ p. p ≡ text_of text.now) }
-    {
-        if text.len() > PADDED_CAPACITY {
-            return None;
-        }
-        let mut bytes = [0; PADDED_CAPACITY];
-        slices::write_short(&mut bytes, 0, text.as_bytes());
-        Some(PaddedStr {
-            bytes,
-            len: text.len(),
-        })
-    }
-}
+/// The block of a `Display` or of what is collected, zeroed at each call: with the fields after it 256 bytes at most, and so
+/// inline.
+pub const SHOWN: usize = 240;
 
 /// A text of at most `N` bytes, in which short pieces are collected. All of them are zeroed at first.
 #[derive(Drop)]
@@ -120,28 +80,6 @@ impl<const N: usize> StackBuffer<N> {
         let end = self.len + text.len();
         slices::write_whole(&mut self.bytes, self.len, text.as_bytes());
         self.len = end;
-        true
-    }
-
-    /// Appends `separator` and then `text`, or returns `false` if `text` is longer than 32 bytes or fewer than 48 are
-    /// free.
-    #[inline(always)]
-    pub fn try_push_separated(&mut self, separator: &PaddedStr, text: &str) -> bool
-        ensures fits { IsTrue result ↔ ((length text.now ≤ 32) × (size self.old + 48 ≤ N)) }
-        ensures pushed { IsTrue result
-            → self.new ≡ (self.old ++ separator.now) ++ text_of text.now }
-        ensures full { result ≡ false → self.new ≡ self.old }
-    {
-        if text.len() > slices::MAX_SHORT_LEN {
-            return false;
-        }
-        if N - self.len < MAX_SEPARATED_LEN {
-            return false;
-        }
-        let start = self.len + separator.len;
-        slices::write_padded(&mut self.bytes, self.len, &separator.bytes, separator.len);
-        slices::write_short(&mut self.bytes, start, text.as_bytes());
-        self.len = start + text.len();
         true
     }
 

@@ -152,7 +152,7 @@ pub fn write(slice: &mut [u8], at: usize, source: &[u8])
 }
 
 /// The most bytes that `write_short` writes.
-pub const MAX_SHORT_LEN: usize = 32;
+const MAX_SHORT_LEN: usize = 32;
 
 /// Writes `source`, of at most 32 bytes, at `at`: its first and its last 16, 8, 4, 2 or 1 bytes, without a loop.
 #[inline(always)]
@@ -174,16 +174,6 @@ pub fn write_short(slice: &mut [u8], at: usize, source: &[u8])
     } else if count == 1 {
         write_overlapping::<1>(slice, at, source);
     }
-}
-
-/// Writes the 16 bytes of `source` at `at`, of which only the first `count` are specified. Branch-free.
-#[inline(always)]
-pub fn write_padded(slice: &mut [u8], at: usize, source: &[u8; 16], count: usize)
-    requires most { count ≤ 16 }
-    requires target { at + 16 ≤ length slice.old }
-    ensures { take (at + count) slice.new ≡ take at slice.old ++ take count source.now }
-{
-    store(slice, at, load::<16>(source, 0));
 }
 
 /// Writes `source` at `at` by one copy: a store or two where the compiler knows the length.

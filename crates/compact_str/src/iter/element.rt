@@ -1,17 +1,16 @@
 //! Items to collect or append: texts and characters.
-ghost use Rattle.std.specs.Prelude.{◌≡◌, ℕ, ◌+◌, ◌<◌, ◌≤◌, List, ◌++◌, OnOk, OnErr, IsOk, IfSome, IsTrue, false};
-ghost use Rattle.compact_str.specs.Words.{INLINE_CAPACITY, size, text_of, PlacedFor, AllocatesFor, room_to_append, HasRoomFor};
-ghost use Rattle.compact_str.specs.Collect.{char_text};
+ghost use Rattle.std.specs.Prelude.{◌≡◌, ℕ, ◌+◌, ◌<◌, List, ◌++◌, OnOk, OnErr, IsOk, IsTrue, false};
+ghost use Rattle.compact_str.specs.Words.{size, text_of, PlacedFor, AllocatesFor, room_to_append, HasRoomFor};
+ghost use Rattle.compact_str.specs.Collect.{char_text, string_text};
+ghost use Rattle.compact_str.specs.declared.stack_buffer.TheConstants.{SHOWN};
 
-use crate::builder::{Builder, COLLECTED, SHOWN};
 use crate::error::ReserveError;
 use crate::iter::AsText;
-use crate::stack_buffer::{PaddedStr, StackBuffer};
+use crate::iter::gather::append_both;
+use crate::stack_buffer::{SHOWN, StackBuffer};
 use crate::string::PolicyString;
 use compact_repr::Policy;
-
-/// The longest text that goes to the short block. A longer one would mostly be copied to the long block after it.
-const MAX_BLOCK_PIECE: usize = 64;
+use compact_text::str_parts::encode_char;
 
 /// A text or a character, which is appended as a whole.
 pub trait Element: Drop {
@@ -32,28 +31,20 @@ pub trait Element: Drop {
             (AllocatesFor value.old (room_to_append (size (text self.now)))) }
         ensures err { OnErr result (value.new ≡ value.old) };
 
-    /// Appends the piece to a block. Takes any piece of at most 64 bytes if 64 are free; otherwise may return `false`.
+    /// Appends the piece to a block if two bytes more than it has are free there; otherwise may return `false`.
     fn try_push_to_block(&self, block: &mut StackBuffer<SHOWN>) -> bool
-        ensures room { size (text self.now) ≤ 64 → size block.old + 64 ≤ 240 → IsTrue result }
+        ensures room { result ≡ false → SHOWN < size block.old + (size (text self.now) + 2) }
         ensures pushed { IsTrue result → block.new ≡ block.old ++ text self.now }
         ensures full { result ≡ false → block.new ≡ block.old };
 
-    /// Appends `separator` and then the piece to a builder. `padded` is the same separator, if it is short.
+    /// Appends `block` and the piece to a long text.
     ///
     /// # Errors
     ///
-    /// [`ReserveError`] if allocation fails. Never fails up to 24 bytes.
-    fn push_separated<P: Policy>(
-        &self,
-        gathered: &mut Builder<P, COLLECTED>,
-        separator: &str,
-        padded: &Option<PaddedStr>,
-    ) -> Result<(), ReserveError>
-        requires same { IfSome padded.now (λ p. p ≡ text_of separator.now) }
-        ensures ok { OnOk result
-            (gathered.new ≡ (gathered.old ++ text_of separator.now) ++ text self.now) }
-        ensures err { OnErr result
-            (INLINE_CAPACITY < size ((gathered.old ++ text_of separator.now) ++ text self.now)) };
+    /// [`ReserveError`] if allocation fails.
+    fn push_after(&self, long: &mut String, block: &str) -> Result<(), ReserveError>
+        ensures { OnOk result
+            (string_text long.new ≡ (string_text long.old ++ text_of block.now) ++ text self.now) };
 }
 
 impl<T: AsText> Element for T {
@@ -66,25 +57,12 @@ impl<T: AsText> Element for T {
 
     #[inline]
     fn try_push_to_block(&self, block: &mut StackBuffer<SHOWN>) -> bool {
-        let text = self.text();
-        if text.len() > MAX_BLOCK_PIECE {
-            return false;
-        }
-        block.try_push_str(text)
+        block.try_push_str(self.text())
     }
 
     #[inline]
-    #[tactic(auto, using(crate::proofs::CollectFacts::builder_facts, compact_text::proofs::Texts::empty_text))]
-    fn push_separated<P: Policy>(
-        &self,
-        gathered: &mut Builder<P, COLLECTED>,
-        separator: &str,
-        padded: &Option<PaddedStr>,
-    ) -> Result<(), ReserveError> {
-        if separator.is_empty() {
-            return gathered.push_str(self.text());
-        }
-        gathered.push_separated(separator, padded, self.text())
+    fn push_after(&self, long: &mut String, block: &str) -> Result<(), ReserveError> {
+        append_both(long, block, self.text())
     }
 }
 
@@ -101,15 +79,9 @@ impl Element for char {
         block.try_push(*self)
     }
 
-    #[inline(always)]
-    fn push_separated<P: Policy>(
-        &self,
-        gathered: &mut Builder<P, COLLECTED>,
-        separator: &str,
-        _padded: &Option<PaddedStr>,
-    ) -> Result<(), ReserveError> {
-        gathered.push_str(separator)?;
-        gathered.push(*self)
+    #[inline]
+    fn push_after(&self, long: &mut String, block: &str) -> Result<(), ReserveError> {
+        append_both(long, block, encode_char(*self, &mut [0; 4]))
     }
 }
 
@@ -126,14 +98,8 @@ impl Element for &char {
         block.try_push(**self)
     }
 
-    #[inline(always)]
-    fn push_separated<P: Policy>(
-        &self,
-        gathered: &mut Builder<P, COLLECTED>,
-        separator: &str,
-        _padded: &Option<PaddedStr>,
-    ) -> Result<(), ReserveError> {
-        gathered.push_str(separator)?;
-        gathered.push(**self)
+    #[inline]
+    fn push_after(&self, long: &mut String, block: &str) -> Result<(), ReserveError> {
+        append_both(long, block, encode_char(**self, &mut [0; 4]))
     }
 }

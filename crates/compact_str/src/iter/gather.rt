@@ -1,20 +1,19 @@
 //! Concatenating pieces, with a separator between each two.
-ghost use Rattle.std.specs.Prelude.{◌≡◌, List, ◌++◌, ◌∷◌, IfOk, OnErr};
+ghost use Rattle.std.specs.Prelude.{◌≡◌, ◌⊎◌, ◌<◌, List, [], ◌++◌, IfOk, OnOk, OnErr};
 ghost use Rattle.std.specs.Iterator.{Drains, IsFinite};
-ghost use Rattle.compact_str.specs.Words.{text_of};
+ghost use Rattle.compact_str.specs.Words.{INLINE_CAPACITY, size, text_of};
 ghost use Rattle.compact_str.specs.Room.{IsPlacedBySize};
-ghost use Rattle.compact_str.specs.Collect.{PassesInline, join};
+ghost use Rattle.compact_str.specs.Collect.{PassesInline, join, string_text};
 
-use crate::builder::{Builder, COLLECTED, SHOWN};
 use crate::error::ReserveError;
 use crate::iter::element::Element;
-use crate::stack_buffer::{PaddedStr, StackBuffer};
+use crate::stack_buffer::{SHOWN, StackBuffer};
 use crate::string::PolicyString;
 use compact_repr::Policy;
 use std::alloc::Global;
 
-/// Concatenates the pieces, with `separator` between each two. A text of at most 240 bytes is gathered in a block that
-/// is zeroed without a call.
+/// Concatenates the pieces, with `separator` between each two. They are gathered in a block that is zeroed without a call.
+/// A text that does not fit there is moved to a `String` whenever the block is full.
 #[inline(always)]
 pub fn gather<P: Policy, T: Element, I: Iterator<Item = T> + Drop>(
     alloc: Global,
@@ -31,51 +30,74 @@ pub fn gather<P: Policy, T: Element, I: Iterator<Item = T> + Drop>(
         (PassesInline I.next_gives (join (text_of separator.now) T.text) pieces) }
 {
     let mut pieces = pieces;
+    let mut long = String::new(alloc);
     let mut block: StackBuffer<SHOWN> = StackBuffer::empty();
     let mut between = "";
     while let Some(piece) = pieces.next() {
-        if !block.try_push_str(between) {
-            return gather_long(alloc, block.as_str(), between, piece, pieces, separator);
-        }
-        if !piece.try_push_to_block(&mut block) {
-            return gather_long(alloc, block.as_str(), "", piece, pieces, separator);
-        }
+        push_piece(&between, &mut block, &mut long)?;
+        push_piece(&piece, &mut block, &mut long)?;
         between = separator;
     }
     drop(pieces);
-    PolicyString::new(alloc, block.as_str())
+    finish(alloc, long, block.as_str())
 }
 
-/// Appends to `start` the text `between`, `first` and the other pieces, each after `separator`.
+/// Appends a piece to the block, or, if that has no room, both to `long`.
+#[inline(always)]
+#[tactic(auto, using(crate::proofs::CollectFacts::gather_facts))]
+fn push_piece<T: Element>(
+    piece: &T,
+    block: &mut StackBuffer<SHOWN>,
+    long: &mut String,
+) -> Result<(), ReserveError>
+    ensures ok { OnOk result
+        (string_text long.new ++ block.new
+        ≡ (string_text long.old ++ block.old) ++ T.text piece.now) }
+    ensures long { OnOk result
+        ((string_text long.new ≡ string_text long.old)
+        ⊎ (INLINE_CAPACITY < size (string_text long.new))) }
+    ensures err { OnErr result
+        (INLINE_CAPACITY < size ((string_text long.old ++ block.old) ++ T.text piece.now)) }
+{
+    if !piece.try_push_to_block(block) {
+        piece.push_after(long, block.as_str())?;
+        block.clear();
+    }
+    Ok(())
+}
+
+/// Appends a full block and the text that did not fit in it. Reserves twice as much the first time.
 #[cold]
 #[inline(never)]
-fn gather_long<P: Policy, T: Element, I: Iterator<Item = T> + Drop>(
-    alloc: Global,
-    start: &str,
-    between: &str,
-    first: T,
-    others: I,
-    separator: &str,
-) -> Result<PolicyString<P>, ReserveError>
-    requires can { I.can_next others }
-    requires ends { IsFinite (I.remaining others) }
-    ensures ok { IfOk result
-        (λ v. (xs : List T) × Drains I.next_gives others xs
-        × (v.text ≡ (text_of start.now ++ text_of between.now)
-        ++ join (text_of separator.now) T.text (first ∷ xs))) }
-    ensures place { IfOk result IsPlacedBySize }
-    ensures err { OnErr result
-        (PassesInline I.next_gives
-        (λ xs. (text_of start.now ++ text_of between.now)
-        ++ join (text_of separator.now) T.text (first ∷ xs))
-        others) }
+#[tactic(auto, using(crate::proofs::EditFacts::string_facts))]
+pub fn append_both(long: &mut String, block: &str, text: &str) -> Result<(), ReserveError>
+    ensures ok { OnOk result
+        (string_text long.new ≡ (string_text long.old ++ text_of block.now) ++ text_of text.now) }
 {
-    let mut gathered: Builder<P, COLLECTED> = Builder::new(alloc);
-    gathered.push_str(start)?;
-    first.push_separated(&mut gathered, between, &None)?;
-    let padded = PaddedStr::new(separator);
-    for piece in others {
-        piece.push_separated(&mut gathered, separator, &padded)?;
+    if long.is_empty() {
+        let len = block.len().saturating_add(text.len());
+        long.reserve(len.saturating_mul(2))?;
     }
-    gathered.finish()
+    long.push_str(block)?;
+    Ok(long.push_str(text)?)
+}
+
+/// Returns `long`, if that is not empty, and the last block as a value.
+#[inline(always)]
+#[tactic(auto, using(crate::proofs::CollectFacts::gather_facts))]
+fn finish<P: Policy>(
+    alloc: Global,
+    mut long: String,
+    block: &str,
+) -> Result<PolicyString<P>, ReserveError>
+    requires { (string_text long ≡ []) ⊎ (INLINE_CAPACITY < size (string_text long)) }
+    ensures text { IfOk result (λ v. v.text ≡ string_text long ++ text_of block.now) }
+    ensures place { IfOk result IsPlacedBySize }
+    ensures err { OnErr result (INLINE_CAPACITY < size (string_text long ++ text_of block.now)) }
+{
+    if long.is_empty() {
+        return PolicyString::new(alloc, block);
+    }
+    long.push_str(block)?;
+    Ok(PolicyString::from(long))
 }

@@ -4,7 +4,7 @@ ghost use Rattle.std.specs.Fmt.{styled_text, debug_str, AppendsText, with_newlin
 ghost use Rattle.compact_str.specs.Words.{utf8, text_of, PlacedFor, AllocatesFor, room_to_append, HasRoomFor, infallible_capacity};
 ghost use Rattle.compact_str.specs.Output.{PushesOutput, Writes};
 
-use crate::builder::{Builder, SHOWN};
+use crate::builder::Builder;
 use crate::error::ReserveError;
 use crate::string::PolicyString;
 use compact_repr::Policy;
@@ -105,7 +105,7 @@ impl<P: Policy> PolicyString<P> {
         // May fail in formatting too. The string is then unchanged.
         ensures err { OnErr result (self.new ≡ self.old) }
     {
-        let mut shown: Builder<P, SHOWN> = Builder::for_target(self);
+        let mut shown: Builder<P> = Builder::for_target(self);
         match shown.write(value) {
             Ok(()) => shown.push_onto(self),
             Err(fmt::Error) => Err(ReserveError),
@@ -151,7 +151,7 @@ impl<P: Policy> PolicyString<P> {
         // As `write`, with a newline after it.
         ensures { PushesOutput P.growth self.old (with_newline (D.output value)) result self.new }
     {
-        let mut shown: Builder<P, SHOWN> = Builder::for_target(self);
+        let mut shown: Builder<P> = Builder::for_target(self);
         match shown.writeln(value) {
             Ok(()) => shown.push_onto(self),
             Err(fmt::Error) => Err(ReserveError),

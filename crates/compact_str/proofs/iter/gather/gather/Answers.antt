@@ -1,49 +1,21 @@
-use Rattle.std.proofs.Common.{rules, refl, sym, ◌∙◌, ◌++◌, [], length, append-nil}
-use Rattle.std.proofs.lemmas.Str.{chars-nil}
-use Rattle.std.proofs.Math.Seq.{drop-nil}
+use Rattle.std.proofs.Common.{rules, ◌++◌, ◌∙◌, arith}
 use Rattle.compact_repr.specs.Text.{text_of}
-use Rattle.compact_str.specs.Collect.{join}
-use Rattle.compact_text.proofs.Texts.{size-text_of}
-use Rattle.compact_str.proofs.CollectLemmas.{later, finished}
+use Rattle.compact_text.proofs.Texts.{size-append}
+use Rattle.compact_str.specs.Collect.{string_text}
+use Rattle.compact_str.proofs.CollectLemmas.{on_err, passes-joined}
 use Rattle.compact_str.proofs.iter.gather.gather.Goals as goal
 
-pub loop-piece-init : goal.loop-piece-init
-loop-piece-init g c = (
-  ([], (refl, refl)),
-  c.empty-block.ensures ∙ sym (drop-nil (length (text_of c.args.separator.now))),
-  chars-nil,
-)
+pub returns-in_err-push_piece-clause-err : goal.returns-in_err-push_piece-clause-err
+returns-in_err-push_piece-clause-err g c =
+    let l = c.loop-piece in
+    let z = (string_text l.long ++ l.block) ++ text_of l.between.now in
+    on_err _ (passes-joined g.I.Iterator.next_gives g.T.Element.text (text_of c.args.separator.now) _ _ _ l.yielded
+    c.in-Some.piece z l.yielded_by c.in-Some.ensures.steps (search rules)
+    (omega (arith, c.in_err-push_piece.ensures.err, size-append z (g.T.Element.text c.in-Some.piece))))
 
-pub returns-then-not-try_push_str : goal.returns-then-not-try_push_str
-returns-then-not-try_push_str g c =
-    let i = c.loop-piece.invariant in
-    let all = later g.I.Iterator.next_gives g.T.Element.text (text_of c.args.separator.now) _ _ _ c.loop-piece.yielded
-    c.in-Some.piece _ c.gather_long.result c.loop-piece.yielded_by c.in-Some.ensures.steps
-    (rw (c.as_str.ensures.text, c.try_push_str.ensures.full c.if-not-try_push_str.true, i.1, i.2) refl)
-    c.gather_long.ensures.ok c.gather_long.ensures.err in
-    record { ok = all.0; place = c.gather_long.ensures.place; err = all.1 }
-
-pub returns-then-not-try_push_to_block : goal.returns-then-not-try_push_to_block
-returns-then-not-try_push_to_block g c =
-    let i = c.loop-piece.invariant in
-    let ended = c.gather_long-then-not-try_push_to_block.ensures in
-    let all = later g.I.Iterator.next_gives g.T.Element.text (text_of c.args.separator.now) _ _ _ c.loop-piece.yielded
-    c.in-Some.piece (text_of c.as_str-then-not-try_push_to_block.result.now ++ text_of [])
-    c.gather_long-then-not-try_push_to_block.result c.loop-piece.yielded_by c.in-Some.ensures.steps
-    (rw chars-nil (append-nil _ ∙ rw (
-      c.as_str-then-not-try_push_to_block.ensures.text,
-      c.try_push_to_block.ensures.full c.if-not-try_push_to_block.true,
-      c.try_push_str.ensures.pushed c.if-not-try_push_str.false,
-      i.1,
-      i.2,
-    ) refl))
-    ended.ok ended.err in
-    record { ok = all.0; place = ended.place; err = all.1 }
-
-pub returns : goal.returns
-returns g c =
-    let all = finished g.I.Iterator.next_gives _ _ _ (join (text_of c.args.separator.now) g.T.Element.text)
-    c.loop-piece.yielded _ c.new.result c.loop-piece.yielded_by c.in_default.ensures.steps
-    (c.as_str-2.ensures.text ∙ c.loop-piece.invariant.1) c.new.ensures.text
-    (rw (size-text_of _ c.as_str-2.utf8) c.new.ensures.allocates) in
-    record { ok = all.0; place = search rules; err = all.1 }
+pub returns-in_err-push_piece-2-clause-err : goal.returns-in_err-push_piece-2-clause-err
+returns-in_err-push_piece-2-clause-err g c =
+    let l = c.loop-piece in
+    on_err _ (passes-joined g.I.Iterator.next_gives g.T.Element.text (text_of c.args.separator.now) _ _ _ l.yielded
+    c.in-Some.piece _ l.yielded_by c.in-Some.ensures.steps (c.in_ok-push_piece.ensures.ok ∙ search rules)
+    c.in_err-push_piece-2.ensures.err)

@@ -1,9 +1,0 @@
-use Rattle.std.proofs.Common.{◌≡◌, ◌++◌, ◌∷◌}
-use Rattle.compact_repr.specs.Text.{text_of}
-use Rattle.compact_str.specs.Collect.{join}
-use Rattle.compact_str.proofs.iter.gather.gather_long.Given as goal
-
--- the items so far are appended
-abbrev pub invariant-loop-piece : goal.invariant-loop-piece
-invariant-loop-piece g l = l.gathered
-    ≡ (text_of l.start ++ text_of l.between) ++ join (text_of l.separator) g.T.Element.text (l.fn.first ∷ l.yielded)
