@@ -7,12 +7,9 @@ use Rattle.compact_text.proofs.TextFacts.{text_facts}
 use Rattle.compact_text.proofs.Texts.{size-front}
 use Rattle.compact_str.proofs.EditFacts.{string_facts}
 use Rattle.compact_str.proofs.DecodedValues.{new-by_size, from_string_placement-by_size}
-use Rattle.compact_str.proofs.SizePlacements.{by_size-append, by_size-empty, allocates-over, append-moved}
+use Rattle.compact_str.proofs.SizePlacements.{append-moved}
 
-pub ruleset builder_facts = (text_facts, by_size-append, by_size-empty, allocates-over, append_assoc, append-nil)
-
--- the end of what is gathered
-pub ruleset gather_facts = (string_facts, append_assoc, append-nil, new-by_size, from_string_placement-by_size)
+pub ruleset builder_facts = (string_facts, append_assoc, append-nil, new-by_size, from_string_placement-by_size)
 
 -- moving a text into an empty target
 pub ruleset target_facts = (builder_facts, append-moved)

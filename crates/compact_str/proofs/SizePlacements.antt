@@ -3,8 +3,8 @@ use Rattle.std.proofs.Common.{◌≡◌, true, ℕ, ◌+◌, ◌<◌, ◌≤◌,
 use Rattle.std.proofs.lemmas.Grind.{common_steps}
 use Rattle.std.proofs.lemmas.Bool.{cases_lt}
 use Rattle.compact_repr.specs.Text.{size}
-use Rattle.compact_repr.specs.Value.{Place, PlacedText, placed_text, is_heap_place, inline, heap, static}
-use Rattle.compact_repr.specs.Capacity.{Growth, inline_placement, room_to_append, PlacedFor, AllocatesFor}
+use Rattle.compact_repr.specs.Value.{Place, PlacedText, is_heap_place, inline, heap, static}
+use Rattle.compact_repr.specs.Capacity.{Growth, inline_placement, room_to_append, PlacedFor}
 use Rattle.compact_str.specs.Room.{IsPlacedBySize}
 use Rattle.compact_text.proofs.Texts.{size-append}
 
@@ -35,13 +35,6 @@ by_size-append g v w s n f t k e =
         | inl k ↦ let p = f.long k in let r = heap-append g v w n p.0 p.1 e k in (r.0, omega (arith, long, r.1))
       ];
     }
-
-pub by_size-empty : IsPlacedBySize (placed_text [] inline_placement)
-by_size-empty = record { short = λ _. refl; long = λ h. absurd (omega (arith, h)) }
-
--- an append that allocates passes 24 bytes
-pub allocates-over : (v : PlacedText) (n : ℕ) → AllocatesFor v (room_to_append n) → 24 < size v.text + n
-allocates-over v n h = grind (arith, common_steps)
 
 heap-place : (p : Place) → is_heap_place p ≡ true → p ≡ heap
 heap-place heap e = refl

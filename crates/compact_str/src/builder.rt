@@ -1,26 +1,25 @@
-//! A builder that collects short pieces on the stack before it appends them.
+//! A builder that collects short pieces on the stack before it appends them to a string.
 ghost use Rattle.std.specs.Prelude.{◌≡◌, ◌<◌, [], ◌++◌, false, IsTrue, IsOk, OnOk, OnErr};
 ghost use Rattle.compact_str.specs.Words.{size, text_of, PlacedFor, room_to_append, INLINE_CAPACITY};
 ghost use Rattle.compact_str.specs.Room.{IsPlacedBySize};
 ghost use Rattle.compact_str.specs.Output.{AppendsUtf8};
 
-use crate::decode::push_or_reserve;
 use crate::error::ReserveError;
-use crate::stack_buffer::{SHOWN, StackBuffer};
+use crate::stack_buffer::{BLOCK, StackBuffer};
 use crate::string::PolicyString;
 use compact_repr::Policy;
 use std::alloc::Global;
 use std::marker::Model;
 use std::{fmt, mem};
 
-/// The bytes that a text of pieces past its block gets at once.
+/// The least capacity for a text past its block.
 const LONG: usize = 1024;
 
-/// A string under construction, and a stack buffer of pieces not yet appended. A contract sees the text of both.
-pub struct Builder<P: Policy> {
-    value: PolicyString<P>,
-    block: StackBuffer<SHOWN>,
-    // Whether a piece did not fit in the block. Until then the value is empty.
+/// A text under construction, and a stack buffer of pieces not yet appended to it. A contract sees the text of both.
+pub struct Builder {
+    long: String,
+    block: StackBuffer,
+    // Whether a piece did not fit in the block. Until then `long` is empty.
     is_long: bool,
     // Whether a piece failed in `write_str`: a `Display` may ignore that and continue.
     is_refused: bool,
@@ -28,38 +27,38 @@ pub struct Builder<P: Policy> {
     target_capacity: usize,
 }
 
-impl<P: Policy> Model for Builder<P> {
+impl Model for Builder {
     ghost use Rattle.std.specs.Prelude.{◌≡◌, ℕ, List, [], ◌++◌, false};
-    ghost use Rattle.compact_str.specs.Room.{IsPlacedBySize};
+    ghost use Rattle.compact_str.specs.Collect.{string_text};
 
     ghost Value = { List ℕ };
 
-    ghost view = { λ g. g.value.text ++ g.block };
+    ghost view = { λ g. string_text g.long ++ g.block };
 
-    ghost invariant = { λ g. IsPlacedBySize g.value × (g.is_long ≡ false → g.value.text ≡ []) };
+    ghost invariant = { λ g. g.is_long ≡ false → string_text g.long ≡ [] };
 }
 
 /// A manual `Drop`: a derived one is expanded in the proof of every function that owns a builder.
-impl<P: Policy> Drop for Builder<P> {
+impl Drop for Builder {
     #[inline]
     fn drop(self) {
         let Builder {
-            value,
+            long,
             block: _,
             is_long: _,
             is_refused: _,
             target_capacity: _,
         } = self;
-        drop(value);
+        drop(long);
     }
 }
 
 #[tactic(auto, using(crate::proofs::CollectFacts::builder_facts))]
-impl<P: Policy> Builder<P> {
+impl Builder {
     /// Returns an empty builder of a text for `target`. If that is empty, a long text that fits there and fills half of it
     /// gets a buffer of the same capacity, which `push_onto` then moves into it.
     #[inline]
-    pub fn for_target(target: &PolicyString<P>) -> Self
+    pub fn for_target<P: Policy>(target: &PolicyString<P>) -> Self
         ensures { result ≡ [] }
     {
         let target_capacity = if target.is_empty() {
@@ -68,7 +67,7 @@ impl<P: Policy> Builder<P> {
             0
         };
         Builder {
-            value: PolicyString::default(target.allocator()),
+            long: String::new(target.allocator()),
             block: StackBuffer::empty(),
             is_long: false,
             is_refused: false,
@@ -76,28 +75,29 @@ impl<P: Policy> Builder<P> {
         }
     }
 
-    /// Appends the block to the value, and then `text`. The first time also reserves more.
+    /// Appends the block to the long text, and then `text`. The first time also reserves more.
     #[cold]
     #[inline(never)]
     fn push_str_slow(&mut self, text: &str) -> Result<(), ReserveError>
-        ensures ok { OnOk result (self.new ≡ self.old ++ text_of text.now) }
-        ensures err { OnErr result (INLINE_CAPACITY < size (self.old ++ text_of text.now)) }
+        ensures { OnOk result (self.new ≡ self.old ++ text_of text.now) }
     {
         self.is_long = true;
-        let len = self.block.as_str().len().saturating_add(text.len());
-        let spare = self.spare_after(len);
-        let more = spare.saturating_add(text.len());
-        push_or_reserve(&mut self.value, self.block.as_str(), more)?;
+        if self.long.is_empty() {
+            let len = self.block.as_str().len().saturating_add(text.len());
+            let capacity = self.first_capacity(len);
+            self.long.reserve_exact(capacity)?;
+        }
+        self.long.push_str(self.block.as_str())?;
         self.block.clear();
-        push_or_reserve(&mut self.value, text, spare)
+        Ok(self.long.push_str(text)?)
     }
 
-    /// Returns how many bytes more to reserve after the first `len`: up to the target's capacity if they fill half of it,
-    /// otherwise up to 1024 in all, or one block after a long text.
-    fn spare_after(&self, len: usize) -> usize {
+    /// Returns the capacity for the first `len` bytes: the target's if they fit there and fill half of it, otherwise 1024, or
+    /// one block more than a long text.
+    fn first_capacity(&self, len: usize) -> usize {
         match self.target_capacity.checked_sub(len) {
-            Some(spare) if spare <= len => spare,
-            _ => LONG.saturating_sub(len).max(SHOWN),
+            Some(spare) if spare <= len => self.target_capacity,
+            _ => len.saturating_add(BLOCK).max(LONG),
         }
     }
 
@@ -107,7 +107,7 @@ impl<P: Policy> Builder<P> {
     ///
     /// [`ReserveError`] if allocation fails, or failed in `write_str`. `target` is then unchanged.
     #[inline]
-    pub fn push_onto(&mut self, target: &mut PolicyString<P>) -> Result<(), ReserveError>
+    pub fn push_onto<P: Policy>(&mut self, target: &mut PolicyString<P>) -> Result<(), ReserveError>
         ensures text { OnOk result (target.new.text ≡ target.old.text ++ self.old) }
         ensures place { OnOk result
             (PlacedFor P.growth target.old target.new (room_to_append (size self.old))) }
@@ -122,7 +122,10 @@ impl<P: Policy> Builder<P> {
     /// The slow path of `push_onto`.
     #[cold]
     #[inline(never)]
-    fn push_onto_slow(&mut self, target: &mut PolicyString<P>) -> Result<(), ReserveError>
+    fn push_onto_slow<P: Policy>(
+        &mut self,
+        target: &mut PolicyString<P>,
+    ) -> Result<(), ReserveError>
         ensures text { OnOk result (target.new.text ≡ target.old.text ++ self.old) }
         ensures place { OnOk result
             (PlacedFor P.growth target.old target.new (room_to_append (size self.old))) }
@@ -131,9 +134,9 @@ impl<P: Policy> Builder<P> {
         if self.is_refused {
             return Err(ReserveError);
         }
-        let empty = PolicyString::default(target.allocator());
-        let mut value = mem::replace(&mut self.value, empty);
-        value.push_str(self.block.as_str())?;
+        let mut long = mem::replace(&mut self.long, String::new(target.allocator()));
+        long.push_str(self.block.as_str())?;
+        let mut value = PolicyString::from(long);
         if move_to_empty(&mut value, target) {
             return Ok(());
         }
@@ -163,7 +166,7 @@ fn move_to_empty<P: Policy>(value: &mut PolicyString<P>, target: &mut PolicyStri
     true
 }
 
-impl<P: Policy> fmt::Write for Builder<P> {
+impl fmt::Write for Builder {
     ghost write_str_gives = { AppendsUtf8 };
 
     /// Appends `text`.

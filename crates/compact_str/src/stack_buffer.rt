@@ -2,42 +2,44 @@
 ghost use Rattle.std.specs.Prelude.{◌≡◌, ◌+◌, ◌≤◌, [], ◌∷◌, ◌++◌, length, false, IsTrue, ◌↔◌};
 ghost use Rattle.compact_str.specs.Words.{size, utf8, text_of};
 ghost use Rattle.compact_text.specs.Text.{room_for_char};
+ghost use Rattle.compact_str.specs.declared.stack_buffer.TheConstants.{BLOCK};
 
 use compact_text::slices;
 use std::marker::Model;
 
 /// The block of a `Display` or of what is collected, zeroed at each call: with the fields after it 256 bytes at most, and so
 /// inline.
-pub const SHOWN: usize = 240;
+pub const BLOCK: usize = 240;
 
-/// A text of at most `N` bytes, in which short pieces are collected. All of them are zeroed at first.
+/// A text of at most 240 bytes, in which short pieces are collected. All of them are zeroed at first.
 #[derive(Drop)]
-pub struct StackBuffer<const N: usize> {
-    bytes: [u8; N],
+pub struct StackBuffer {
+    bytes: [u8; BLOCK],
     len: usize,
 }
 
-impl<const N: usize> Model for StackBuffer<N> {
+impl Model for StackBuffer {
     ghost use Rattle.std.specs.Prelude.{ℕ, List, take, ◌≤◌};
     ghost use Rattle.std.specs.Str.{IsUtf8};
     ghost use Rattle.compact_str.specs.Words.{text_of};
+    ghost use Rattle.compact_str.specs.declared.stack_buffer.TheConstants.{BLOCK};
 
     ghost Value = { List ℕ };
 
     ghost view = { λ b. text_of (take b.len b.bytes) };
 
-    ghost invariant = { λ b. (b.len ≤ N) × IsUtf8 (take b.len b.bytes) };
+    ghost invariant = { λ b. (b.len ≤ BLOCK) × IsUtf8 (take b.len b.bytes) };
 }
 
 #[tactic(auto, using(crate::proofs::CollectFacts::block_facts))]
-impl<const N: usize> StackBuffer<N> {
+impl StackBuffer {
     /// Returns an empty buffer.
     #[inline]
     pub fn empty() -> Self
         ensures { result ≡ [] }
     {
         StackBuffer {
-            bytes: [0; N],
+            bytes: [0; BLOCK],
             len: 0,
         }
     }
@@ -54,11 +56,11 @@ impl<const N: usize> StackBuffer<N> {
     /// Appends `text`, up to 32 bytes by words, or returns `false` if it does not fit.
     #[inline]
     pub fn try_push_str(&mut self, text: &str) -> bool
-        ensures fits { IsTrue result ↔ (size self.old + length text.now ≤ N) }
+        ensures fits { IsTrue result ↔ (size self.old + length text.now ≤ BLOCK) }
         ensures pushed { IsTrue result → self.new ≡ self.old ++ text_of text.now }
         ensures full { result ≡ false → self.new ≡ self.old }
     {
-        if text.len() > N - self.len {
+        if text.len() > BLOCK - self.len {
             return false;
         }
         let end = self.len + text.len();
@@ -70,11 +72,11 @@ impl<const N: usize> StackBuffer<N> {
     /// As `try_push_str`, by one copy: for a text whose length the compiler often knows.
     #[inline]
     pub fn try_copy_str(&mut self, text: &str) -> bool
-        ensures fits { IsTrue result ↔ (size self.old + length text.now ≤ N) }
+        ensures fits { IsTrue result ↔ (size self.old + length text.now ≤ BLOCK) }
         ensures pushed { IsTrue result → self.new ≡ self.old ++ text_of text.now }
         ensures full { result ≡ false → self.new ≡ self.old }
     {
-        if text.len() > N - self.len {
+        if text.len() > BLOCK - self.len {
             return false;
         }
         let end = self.len + text.len();
@@ -86,7 +88,7 @@ impl<const N: usize> StackBuffer<N> {
     /// Appends `character` if it is ASCII and fits, or if four bytes are free; otherwise returns `false`.
     #[inline]
     pub fn try_push(&mut self, character: char) -> bool
-        ensures fits { IsTrue result ↔ (size self.old + room_for_char character ≤ N) }
+        ensures fits { IsTrue result ↔ (size self.old + room_for_char character ≤ BLOCK) }
         ensures pushed { IsTrue result → self.new ≡ self.old ++ character ∷ [] }
         ensures full { result ≡ false → self.new ≡ self.old }
     {

@@ -2,12 +2,12 @@
 ghost use Rattle.std.specs.Prelude.{◌≡◌, ℕ, ◌+◌, ◌<◌, List, ◌++◌, OnOk, OnErr, IsOk, IsTrue, false};
 ghost use Rattle.compact_str.specs.Words.{size, text_of, PlacedFor, AllocatesFor, room_to_append, HasRoomFor};
 ghost use Rattle.compact_str.specs.Collect.{char_text, string_text};
-ghost use Rattle.compact_str.specs.declared.stack_buffer.TheConstants.{SHOWN};
+ghost use Rattle.compact_str.specs.declared.stack_buffer.TheConstants.{BLOCK};
 
 use crate::error::ReserveError;
 use crate::iter::AsText;
 use crate::iter::gather::append_both;
-use crate::stack_buffer::{SHOWN, StackBuffer};
+use crate::stack_buffer::StackBuffer;
 use crate::string::PolicyString;
 use compact_repr::Policy;
 use compact_text::str_parts::encode_char;
@@ -32,8 +32,8 @@ pub trait Element: Drop {
         ensures err { OnErr result (value.new ≡ value.old) };
 
     /// Appends the piece to a block if two bytes more than it has are free there; otherwise may return `false`.
-    fn try_push_to_block(&self, block: &mut StackBuffer<SHOWN>) -> bool
-        ensures room { result ≡ false → SHOWN < size block.old + (size (text self.now) + 2) }
+    fn try_push_to_block(&self, block: &mut StackBuffer) -> bool
+        ensures room { result ≡ false → BLOCK < size block.old + (size (text self.now) + 2) }
         ensures pushed { IsTrue result → block.new ≡ block.old ++ text self.now }
         ensures full { result ≡ false → block.new ≡ block.old };
 
@@ -56,7 +56,7 @@ impl<T: AsText> Element for T {
     }
 
     #[inline]
-    fn try_push_to_block(&self, block: &mut StackBuffer<SHOWN>) -> bool {
+    fn try_push_to_block(&self, block: &mut StackBuffer) -> bool {
         block.try_push_str(self.text())
     }
 
@@ -75,7 +75,7 @@ impl Element for char {
     }
 
     #[inline]
-    fn try_push_to_block(&self, block: &mut StackBuffer<SHOWN>) -> bool {
+    fn try_push_to_block(&self, block: &mut StackBuffer) -> bool {
         block.try_push(*self)
     }
 
@@ -94,7 +94,7 @@ impl Element for &char {
     }
 
     #[inline]
-    fn try_push_to_block(&self, block: &mut StackBuffer<SHOWN>) -> bool {
+    fn try_push_to_block(&self, block: &mut StackBuffer) -> bool {
         block.try_push(**self)
     }
 

@@ -7,7 +7,7 @@ ghost use Rattle.compact_str.specs.Collect.{PassesInline, join, string_text};
 
 use crate::error::ReserveError;
 use crate::iter::element::Element;
-use crate::stack_buffer::{SHOWN, StackBuffer};
+use crate::stack_buffer::StackBuffer;
 use crate::string::PolicyString;
 use compact_repr::Policy;
 use std::alloc::Global;
@@ -31,7 +31,7 @@ pub fn gather<P: Policy, T: Element, I: Iterator<Item = T> + Drop>(
 {
     let mut pieces = pieces;
     let mut long = String::new(alloc);
-    let mut block: StackBuffer<SHOWN> = StackBuffer::empty();
+    let mut block = StackBuffer::empty();
     let mut between = "";
     while let Some(piece) = pieces.next() {
         push_piece(&between, &mut block, &mut long)?;
@@ -44,10 +44,10 @@ pub fn gather<P: Policy, T: Element, I: Iterator<Item = T> + Drop>(
 
 /// Appends a piece to the block, or, if that has no room, both to `long`.
 #[inline(always)]
-#[tactic(auto, using(crate::proofs::CollectFacts::gather_facts))]
+#[tactic(auto, using(crate::proofs::CollectFacts::builder_facts))]
 fn push_piece<T: Element>(
     piece: &T,
-    block: &mut StackBuffer<SHOWN>,
+    block: &mut StackBuffer,
     long: &mut String,
 ) -> Result<(), ReserveError>
     ensures ok { OnOk result
@@ -84,7 +84,7 @@ pub fn append_both(long: &mut String, block: &str, text: &str) -> Result<(), Res
 
 /// Returns `long`, if that is not empty, and the last block as a value.
 #[inline(always)]
-#[tactic(auto, using(crate::proofs::CollectFacts::gather_facts))]
+#[tactic(auto, using(crate::proofs::CollectFacts::builder_facts))]
 fn finish<P: Policy>(
     alloc: Global,
     mut long: String,

@@ -105,7 +105,7 @@ impl<P: Policy> PolicyString<P> {
         // May fail in formatting too. The string is then unchanged.
         ensures err { OnErr result (self.new ≡ self.old) }
     {
-        let mut shown: Builder<P> = Builder::for_target(self);
+        let mut shown = Builder::for_target(self);
         match shown.write(value) {
             Ok(()) => shown.push_onto(self),
             Err(fmt::Error) => Err(ReserveError),
@@ -151,7 +151,7 @@ impl<P: Policy> PolicyString<P> {
         // As `write`, with a newline after it.
         ensures { PushesOutput P.growth self.old (with_newline (D.output value)) result self.new }
     {
-        let mut shown: Builder<P> = Builder::for_target(self);
+        let mut shown = Builder::for_target(self);
         match shown.writeln(value) {
             Ok(()) => shown.push_onto(self),
             Err(fmt::Error) => Err(ReserveError),
