@@ -76,6 +76,18 @@ fn long_texts_are_concatenated(rt: HostRuntime) {
 }
 
 #[test]
+fn what_is_collected_takes_at_most_twice_its_length(rt: HostRuntime) {
+    let rt = &rt;
+    let alloc = rt.alloc();
+    let text = long(rt, alloc);
+    for len in [241, 300, 511, 512, 1000, 1025, 3000, 100_000] {
+        let made = CompactString::from_chars(alloc, text.chars().take(len)).expect(rt, "memory");
+        assert_equal!(rt, made.len(), len);
+        assert_that!(rt, made.capacity() / 2 <= len);
+    }
+}
+
+#[test]
 fn a_long_json_string_is_read(rt: HostRuntime) {
     let rt = &rt;
     let alloc = rt.alloc();

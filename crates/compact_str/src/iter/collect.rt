@@ -32,8 +32,8 @@ fn collect_elements<P: Policy, T: Element, U: IntoIterator<Item = T>>(
 impl<P: Policy> PolicyString<P> {
     /// Concatenates `texts`, like `collect`. The result is inline up to 24 bytes, else on the heap.
     ///
-    /// Does not use `size_hint`. Allocates at most once up to 240 bytes; past that the buffer doubles, as that of a `String`
-    /// does.
+    /// Does not use `size_hint`. Allocates at most once up to 240 bytes. A longer text grows like a `String`, and takes at most
+    /// twice its length in the end, if memory is found.
     ///
     /// # Errors
     ///

@@ -12,6 +12,18 @@ use crate::string::PolicyString;
 use compact_repr::Policy;
 use std::alloc::Global;
 
+/// A piece of at most so many bytes is one of many.
+const SHORT: usize = 32;
+
+/// The first capacity of a long text of short pieces.
+const OF_SHORT: usize = 1024;
+
+/// The bytes that a separator is expected to have.
+const SEPARATOR: usize = 16;
+
+/// The most bytes that are reserved for two more pieces.
+const TWO_MORE: usize = 2048;
+
 /// Concatenates the pieces, with `separator` between each two. They are gathered in a block that is zeroed without a call.
 /// A text that does not fit there is moved to a `String` whenever the block is full.
 #[inline(always)]
@@ -66,23 +78,36 @@ fn push_piece<T: Element>(
     Ok(())
 }
 
-/// Appends a full block and the text that did not fit in it. Reserves twice as much the first time.
+/// Appends a full block and the text that did not fit in it.
 #[cold]
 #[inline(never)]
-#[tactic(auto, using(crate::proofs::EditFacts::string_facts))]
+#[tactic(auto, using(crate::proofs::CollectFacts::builder_facts, compact_text::proofs::TextFacts::empty_facts))]
 pub fn append_both(long: &mut String, block: &str, text: &str) -> Result<(), ReserveError>
     ensures ok { OnOk result
         (string_text long.new ≡ (string_text long.old ++ text_of block.now) ++ text_of text.now) }
 {
     if long.is_empty() {
-        let len = block.len().saturating_add(text.len());
-        long.reserve(len.saturating_mul(2))?;
+        long.reserve(first_capacity(block.len(), text.len()))?;
     }
-    long.push_str(block)?;
+    if !block.is_empty() {
+        long.push_str(block)?;
+    }
     Ok(long.push_str(text)?)
 }
 
-/// Returns `long`, if that is not empty, and the last block as a value.
+/// Returns the first capacity for `len` bytes and the piece of `last` bytes after them: 1024 for short pieces, else as much
+/// again, or enough for two more such pieces with separators.
+fn first_capacity(len: usize, last: usize) -> usize {
+    if last <= SHORT {
+        return OF_SHORT;
+    }
+    let both = len.saturating_add(last);
+    let two_more = last.saturating_add(SEPARATOR).saturating_mul(2);
+    both.saturating_add(both.max(two_more.min(TWO_MORE)))
+}
+
+/// Returns `long`, if that is not empty, and the last block as a value. Its capacity is at most twice the length, if memory
+/// is found.
 #[inline(always)]
 #[tactic(auto, using(crate::proofs::CollectFacts::builder_facts))]
 fn finish<P: Policy>(
@@ -99,5 +124,10 @@ fn finish<P: Policy>(
         return PolicyString::new(alloc, block);
     }
     long.push_str(block)?;
+    if long.capacity() / 2 > long.len()
+        && let Ok(exact) = PolicyString::new(alloc, long.as_str())
+    {
+        return Ok(exact);
+    }
     Ok(PolicyString::from(long))
 }
