@@ -84,7 +84,7 @@ impl Builder {
         self.is_long = true;
         if self.long.is_empty() {
             let len = self.block.as_str().len().saturating_add(text.len());
-            let capacity = self.first_capacity(len);
+            let capacity = self.capacity_for(len);
             self.long.reserve_exact(capacity)?;
         }
         self.long.push_str(self.block.as_str())?;
@@ -92,9 +92,9 @@ impl Builder {
         Ok(self.long.push_str(text)?)
     }
 
-    /// Returns the capacity for the first `len` bytes: the target's if they fit there and fill half of it, otherwise 1024, or
-    /// one block more than a long text.
-    fn first_capacity(&self, len: usize) -> usize {
+    /// Returns the capacity for a text that begins with `len` bytes: the target's if they fit there and fill half of it,
+    /// otherwise 1024, or one block more than a long text.
+    fn capacity_for(&self, len: usize) -> usize {
         match self.target_capacity.checked_sub(len) {
             Some(spare) if spare <= len => self.target_capacity,
             _ => len.saturating_add(BLOCK).max(LONG),

@@ -11,7 +11,7 @@ use std::marker::Model;
 /// inline.
 pub const BLOCK: usize = 240;
 
-/// A text of at most 240 bytes, in which short pieces are collected. All of them are zeroed at first.
+/// A text of at most 240 bytes, in which short pieces are collected. Its bytes are zeroed at first.
 #[derive(Drop)]
 pub struct StackBuffer {
     bytes: [u8; BLOCK],

@@ -12,11 +12,11 @@ use crate::string::PolicyString;
 use compact_repr::Policy;
 use std::alloc::Global;
 
-/// A piece of at most so many bytes is one of many.
+/// The most bytes of a short piece. Many more are expected after it.
 const SHORT: usize = 32;
 
-/// The first capacity of a long text of short pieces.
-const OF_SHORT: usize = 1024;
+/// The first capacity of a long text whose pieces are short.
+const FIRST_CAPACITY: usize = 1024;
 
 /// The bytes that a separator is expected to have.
 const SEPARATOR: usize = 16;
@@ -99,7 +99,7 @@ pub fn append_both(long: &mut String, block: &str, text: &str) -> Result<(), Res
 /// again, or enough for two more such pieces with separators.
 fn first_capacity(len: usize, last: usize) -> usize {
     if last <= SHORT {
-        return OF_SHORT;
+        return FIRST_CAPACITY;
     }
     let both = len.saturating_add(last);
     let two_more = last.saturating_add(SEPARATOR).saturating_mul(2);
@@ -124,7 +124,7 @@ fn finish<P: Policy>(
         return PolicyString::new(alloc, block);
     }
     long.push_str(block)?;
-    if long.capacity() / 2 > long.len()
+    if long.capacity() - long.len() > long.len()
         && let Ok(exact) = PolicyString::new(alloc, long.as_str())
     {
         return Ok(exact);

@@ -83,6 +83,7 @@ impl<P: Policy> PolicyString<P> {
     }
 
     /// `push` of a character that `try_push` did not append. Not inlined, so that a loop of appends stays short.
+    #[cold]
     #[inline(never)]
     #[tactic(auto, using(compact_repr::proofs::PlacementLemmas::placed_facts))]
     fn push_slow(&mut self, character: char) -> Result<(), ReserveError>
