@@ -18,13 +18,13 @@ const LONG: usize = 1024;
 /// A text under construction, and a stack buffer of pieces not yet appended to it. A contract sees the text of both.
 pub struct Builder {
     long: String,
+    // The capacity of an empty target, or 0. Before the block, so that not more than 256 bytes in a row are zeroed.
+    target_capacity: usize,
     block: StackBuffer,
     // Whether a piece did not fit in the block. Until then `long` is empty.
     is_long: bool,
     // Whether a piece failed in `write_str`: a `Display` may ignore that and continue.
     is_refused: bool,
-    // The capacity of an empty target, or 0.
-    target_capacity: usize,
 }
 
 impl Model for Builder {
@@ -44,10 +44,10 @@ impl Drop for Builder {
     fn drop(self) {
         let Builder {
             long,
+            target_capacity: _,
             block: _,
             is_long: _,
             is_refused: _,
-            target_capacity: _,
         } = self;
         drop(long);
     }
@@ -68,10 +68,10 @@ impl Builder {
         };
         Builder {
             long: String::new(target.allocator()),
+            target_capacity,
             block: StackBuffer::empty(),
             is_long: false,
             is_refused: false,
-            target_capacity,
         }
     }
 
