@@ -91,10 +91,8 @@ fn is_at_end<R: BufRead>(reader: &mut R) -> Result<bool, WireError>
     ensures end { IfOk result (λ b. IsTrue b → IsAtEnd (R.remaining reader.old)) }
     ensures kept { Keeps (R.remaining reader.old) (R.remaining reader.new) }
 {
-    match reader.fill_buf() {
-        Ok(bytes) => Ok(bytes.is_empty()),
-        Err(error) => Err(WireError::Io(error)),
-    }
+    let bytes = reader.fill_buf()?;
+    Ok(bytes.is_empty())
 }
 
 /// Reads the wire records until the end.

@@ -41,6 +41,17 @@ pub enum WireError {
     Reserve(ReserveError),
 }
 
+impl From<io::Error> for WireError {
+    ghost use Rattle.compact_ext.specs.declared.wire.WireError.TheVariants.{Io};
+
+    ghost from_gives = { λ e error. error ≡ Io e };
+
+    /// The case `Io`.
+    fn from(error: io::Error) -> Self {
+        WireError::Io(error)
+    }
+}
+
 impl From<ReserveError> for WireError {
     ghost use Rattle.compact_ext.specs.declared.wire.WireError.TheVariants.{Reserve};
 

@@ -197,7 +197,7 @@ fn faults_are_shown(rt: HostRuntime) {
         "unexpected end of input",
     );
     assert_shown(rt, alloc, WireError::Utf8, "invalid utf-8");
-    let failed = WireError::Io(io::Error::other("x"));
+    let failed = WireError::from(io::Error::other("x"));
     assert_shown(rt, alloc, failed, "input or output failed");
     assert_shown(rt, alloc, WireError::WriteZero, "writer took no bytes");
     let refused = WireError::from(ReserveError);

@@ -18,7 +18,8 @@ const LONG: usize = 1024;
 /// A text under construction, and a stack buffer of pieces not yet appended to it. A contract sees the text of both.
 pub struct Builder {
     long: String,
-    // The capacity of an empty target, or 0. Before the block, so that not more than 256 bytes in a row are zeroed.
+    // The capacity of an empty target, or 0. Before the block, so that at most 256 bytes in a row are zeroed: more would
+    // be zeroed by a call.
     target_capacity: usize,
     block: StackBuffer,
     // Whether a piece did not fit in the block. Until then `long` is empty.

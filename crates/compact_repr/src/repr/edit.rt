@@ -41,12 +41,12 @@ impl<P: Policy> Repr<P> {
         if character.is_ascii() {
             return self.try_push_ascii(character as u8);
         }
-        // Apart from the match, so that a static value is tested last.
-        if let Buffer::Heap(heap) = &mut self.buffer {
-            return heap.try_push(character);
+        // Apart from the match, and first, so that the compiler tests for a heap text first and for a static one last.
+        if let Buffer::Inline(_, inline) = &mut self.buffer {
+            return inline.try_push(character);
         }
         match &mut self.buffer {
-            Buffer::Inline(_, inline) => inline.try_push(character),
+            Buffer::Heap(heap) => heap.try_push(character),
             _ => false,
         }
     }
@@ -60,11 +60,11 @@ impl<P: Policy> Repr<P> {
             → self.new ≡ placed_text (self.old.text ++ byte ∷ []) self.old.placement }
         ensures full { result ≡ false → self.new ≡ self.old }
     {
-        if let Buffer::Heap(heap) = &mut self.buffer {
-            return heap.try_push(char::from(byte));
+        if let Buffer::Inline(_, inline) = &mut self.buffer {
+            return inline.try_push(char::from(byte));
         }
         match &mut self.buffer {
-            Buffer::Inline(_, inline) => inline.try_push(char::from(byte)),
+            Buffer::Heap(heap) => heap.try_push(char::from(byte)),
             _ => false,
         }
     }

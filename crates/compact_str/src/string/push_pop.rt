@@ -82,7 +82,8 @@ impl<P: Policy> PolicyString<P> {
         self.push_slow(character)
     }
 
-    /// `push` of a character that `try_push` did not append. Not inlined, so that a loop of appends stays short.
+    /// `push` of a character that `try_push` did not append. Not inlined, so that a loop of appends stays short, and cold, so
+    /// that it jumps once for a character.
     #[cold]
     #[inline(never)]
     #[tactic(auto, using(compact_repr::proofs::PlacementLemmas::placed_facts))]
