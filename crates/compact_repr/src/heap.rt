@@ -14,9 +14,6 @@ use compact_text::{slices, vec};
 use std::alloc::{AllocError, Global};
 use std::marker::Model;
 
-/// The length above which one call copies faster than blocks.
-const LONG: usize = 64;
-
 /// The greatest capacity to which a buffer grows by a copy.
 const MAX_COPIED: usize = 512;
 
@@ -59,20 +56,12 @@ impl HeapBuffer {
     /// # Errors
     ///
     /// Returns `AllocError` if no memory is found.
-    #[inline(always)]
+    #[inline]
     pub fn copy_of(alloc: Global, text: &str, capacity: usize) -> Result<Self, AllocError>
         requires { length text.now ≤ capacity }
         ensures { IfOk result (λ b. b ≡ record { text = text_of text.now; capacity = capacity }) }
     {
-        if text.len() > LONG && text.len() == capacity {
-            let bytes = Vec::from_slice(alloc, text.as_bytes())?;
-            // Always so; the contract of `from_slice` does not say it.
-            if bytes.capacity() == capacity {
-                return Ok(HeapBuffer { bytes });
-            }
-        }
-        let mut bytes = Vec::with_capacity(alloc, capacity)?;
-        vec::append_to_local(&mut bytes, text.as_bytes());
+        let bytes = vec::copied(alloc, text.as_bytes(), capacity)?;
         Ok(HeapBuffer { bytes })
     }
 
@@ -215,29 +204,6 @@ impl HeapBuffer {
             return false;
         }
         vec::splice(&mut self.bytes, start, end, text.as_bytes());
-        true
-    }
-
-    /// Inserts `text`, 1 to 4 bytes, at byte `index`, a boundary, if it fits, without allocating. Returns whether it did;
-    /// otherwise changes nothing.
-    #[inline(always)]
-    pub fn try_insert_short(&mut self, index: usize, text: &str) -> bool
-        requires least { 1 ≤ length text.now }
-        requires most { length text.now ≤ 4 }
-        requires boundary { IsBoundary self.old.text index }
-        ensures fits { IsTrue result ↔ (size self.old.text + length text.now ≤ self.old.capacity) }
-        ensures inserted { IsTrue result
-            → self.new ≡ record {
-              text = replaced_text self.old.text index index (text_of text.now);
-              capacity = self.old.capacity;
-            } }
-        ensures small { size self.old.text < 2 ^ 63 }
-        ensures full { result ≡ false → self.new ≡ self.old }
-    {
-        if !self.has_room(text.len()) {
-            return false;
-        }
-        vec::insert_short(&mut self.bytes, index, text.as_bytes());
         true
     }
 

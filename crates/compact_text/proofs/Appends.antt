@@ -30,30 +30,13 @@ one_more_zero slice first counter le =
     ∙ ap (λ x. slice ++ x) (replicate-append-replicate (counter - first) 1 0 ∙ ap (λ (n : ℕ). replicate n 0) more)
 
 -- one more block of the list itself
-pub one_more_within : (slice : List ℕ) (start at n m : ℕ) → start ≤ at → at + n ≤ length slice → m ≡ at + n - start
-    → (slice ++ take (at - start) (drop start slice)) ++ take n (drop at (slice ++ take (at - start) (drop start slice)))
+pub one_more_within : (slice : List ℕ) (start done at n m : ℕ) → at ≡ start + done → at + n ≤ length slice → m ≡ done + n
+    → (slice ++ take done (drop start slice)) ++ take n (drop at (slice ++ take done (drop start slice)))
     ≡ slice ++ take m (drop start slice)
-one_more_within slice start at n m order within e =
-    let k : ℕ = at - start in
-    let added : List ℕ = take k (drop start slice) in
-    let place : start + k ≡ at = omega arith in
-    let more : k + n ≡ m = omega (arith, e) in
-    let block : take n (drop at (slice ++ added)) ≡ take n (drop k (drop start slice)) =
+one_more_within slice start done at n m e within f =
+    let added : List ℕ = take done (drop start slice) in
+    let block : take n (drop at (slice ++ added)) ≡ take n (drop done (drop start slice)) =
     ap (take n) (drop-append-le at slice added (omega arith))
     ∙ take-append-le n (drop at slice) added (omega (arith, length-drop at slice))
-    ∙ ap (take n) (sym (drop-drop k start slice ∙ ap (λ (j : ℕ). drop j slice) place)) in
-    ap (λ (x : List ℕ). (slice ++ added) ++ x) block ∙ one_more slice (drop start slice) k n m more
-
--- the same, truncated, and then its last n bytes
-pub ends_within : (slice : List ℕ) (start at last n len m : ℕ) → len ≡ length slice → start ≤ last → last ≤ at
-    → last + n ≤ length slice → m ≡ last + n - start
-    → take (len + (last - start)) (slice ++ take (at - start) (drop start slice))
-    ++ take n (drop last (take (len + (last - start)) (slice ++ take (at - start) (drop start slice))))
-    ≡ slice ++ take m (drop start slice)
-ends_within slice start at last n len m count order past within e =
-    let part : take (len + (last - start)) (slice ++ take (at - start) (drop start slice))
-    ≡ slice ++ take (last - start) (drop start slice) =
-    ap (λ (j : ℕ). take (j + (last - start)) (slice ++ take (at - start) (drop start slice))) count
-    ∙ take-append-add slice (take (at - start) (drop start slice)) (last - start)
-    ∙ ap (λ x. slice ++ x) (take-take (last - start) (at - start) (drop start slice) (omega (arith, past))) in
-    ap (λ x. x ++ take n (drop last x)) part ∙ one_more_within slice start last n m order within e
+    ∙ ap (take n) (sym (drop-drop done start slice ∙ ap (λ (j : ℕ). drop j slice) (sym e))) in
+    ap (λ (x : List ℕ). (slice ++ added) ++ x) block ∙ one_more slice (drop start slice) done n m (sym f)

@@ -6,7 +6,6 @@ pub mod LastCharacter
 pub mod MovesByBlock
 pub mod OverlappingWrites
 pub mod Appends
-pub mod MovesByDistance
 pub mod SplicedSlices
 pub mod TextFacts
 pub mod AsciiCase

@@ -78,8 +78,8 @@ shifted-down slice now from to n k later_from later_to all downward within e f g
     (drop (from + n) (paste slice to (drop from slice) n)) k = cc in
     at ∙ down-one slice from to n k downward (omega arith) ∙ ap (λ (j : ℕ). paste slice to (drop from slice) j) (sym g)
 
-pub paste-same : (slice : List ℕ) (from to n : ℕ) → from ≡ to → slice ≡ paste slice to (drop from slice) n
-paste-same slice from to n e =
+pub paste_same : (slice : List ℕ) (from to n : ℕ) → from ≡ to → slice ≡ paste slice to (drop from slice) n
+paste_same slice from to n e =
     let b : List ℕ = take n (drop to slice) in
     let rest : take to slice ++ b ++ drop (to + n) slice ≡ slice =
     append_assoc (take to slice) b (drop (to + n) slice)
@@ -87,18 +87,3 @@ paste-same slice from to n e =
     ∙ ap (λ x. take to slice ++ x) (take-append-drop n (drop to slice))
     ∙ take-append-drop to slice in
     sym rest ∙ ap (λ (j : ℕ). paste slice to (drop j slice) n) (sym e)
-
--- a move by a known distance
-pub paste-up : (slice now : List ℕ) (from to count distance : ℕ) → to - from ≡ distance → from < to
-    → now ≡ paste slice (from + distance) (drop from slice) count → now ≡ paste slice to (drop from slice) count
-paste-up slice now from to count distance d up e =
-    let at : from + distance ≡ to = omega arith in
-    e ∙ ap (λ (j : ℕ). paste slice j (drop from slice) count) at
-
-pub paste-down : (slice now : List ℕ) (from to count distance : ℕ) → from - to ≡ distance → to < from
-    → now ≡ paste slice to (drop (to + distance) slice) count → now ≡ paste slice to (drop from slice) count
-paste-down slice now from to count distance d down e =
-    let at : to + distance ≡ from = omega arith in
-    e ∙ ap (λ (j : ℕ). paste slice to (drop j slice) count) at
-
-pub ruleset move_facts = (paste-same, paste-up, paste-down)

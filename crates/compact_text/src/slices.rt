@@ -14,7 +14,7 @@ mod simd;
 
 use crate::str_parts::encoded;
 pub use ascii_case::{Case, convert_case};
-use moves::{move_bytes, move_short, move_up};
+use moves::{move_bytes, move_short};
 pub use retain_chars::retain;
 use simd::{load, store};
 
@@ -46,19 +46,6 @@ pub fn splice_short(slice: &mut [u8], len: usize, start: usize, end: usize, sour
 {
     move_short(slice, end, start + source.len(), len - end);
     write_short(slice, start, source);
-}
-
-/// Inserts `source`, which has `N` bytes, at `index` into the first `len` bytes. The later ones move up by a known
-/// distance.
-#[inline(always)]
-pub fn insert_part<const N: usize>(slice: &mut [u8], len: usize, index: usize, source: &[u8])
-    requires source { length source.now ≡ N }
-    requires within { index ≤ len }
-    requires long_enough { len + N ≤ length slice.old }
-    ensures { take (len + N) slice.new ≡ replace_range (take len slice.old) index index source.now }
-{
-    move_up::<N>(slice, index, len - index);
-    write(slice, index, source);
 }
 
 /// Removes the bytes from `start` to `end` from the first `len` bytes. Moves the tail once.
@@ -122,6 +109,21 @@ pub fn array_at<const N: usize>(source: &[u8], at: usize) -> [u8; N]
     match source[at..].first_chunk::<N>() {
         Some(chunk) => *chunk,
         None => unreachable!(),
+    }
+}
+
+/// The most bytes that one copy moves.
+pub const BLOCK: usize = 16384;
+
+/// Copies `source` to `target`, of the same length. A plain loop: the compiler makes it one copy if it sees that they do not
+/// overlap, as a local array and anything else, and two such copies through an array that is then not needed one move.
+#[inline(always)]
+pub fn copy_each(target: &mut [u8], source: &[u8])
+    requires { length source.now ≡ length target.old }
+    ensures { target.new ≡ source.now }
+{
+    for i in 0..source.len() {
+        target[i] = source[i];
     }
 }
 

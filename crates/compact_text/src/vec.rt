@@ -3,27 +3,22 @@
 //! The loops move the vector out of its reference first.
 #![tactic(auto, using(crate::proofs::TextFacts::text_facts, crate::proofs::Facts::vec_facts))]
 
-ghost use Rattle.std.specs.Prelude.{◌≡◌, ◌+◌, ◌-◌, ◌<◌, ◌≤◌, [], ◌∷◌, ◌++◌, length, take, drop, replicate, IsTrue, ◌↔◌, false, IfSome, None};
+ghost use Rattle.std.specs.Prelude.{◌≡◌, ◌+◌, ◌-◌, ◌<◌, ◌≤◌, [], ◌∷◌, ◌++◌, length, take, drop, replicate, IsTrue, ◌↔◌, false, IfSome, IfOk, None};
 ghost use Rattle.std.specs.Char.{encode_utf8};
 ghost use Rattle.std.specs.List.{replace_range};
 ghost use Rattle.std.specs.Vec.{vec_len, vec_capacity};
 ghost use Rattle.compact_text.specs.Text.{room_for_char};
 
-use crate::slices::{self, array_at};
+use crate::slices::{self, BLOCK, array_at, copy_each};
 use crate::str_parts::encoded;
-use std::mem;
+use core::mem::replace_with;
+use std::alloc::{AllocError, Global};
 
-/// The block size.
-const BLOCK: usize = 32;
+/// The most bytes that are appended inline.
+const SHORT: usize = 32;
 
-/// The most bytes that are appended without a call of `memmove`.
-const MAX_UNROLLED: usize = 256;
-
-/// The block size above that.
-const LONG_BLOCK: usize = 128;
-
-/// The block size for long input. Such a block is copied by one call.
-const WHOLE_BLOCK: usize = 1024;
+/// The most bytes that are appended without a call of `memmove`, which takes longer to begin.
+const MAX_UNROLLED: usize = 128;
 
 /// Appends `source`. A short one is appended inline, without a loop or a call.
 #[inline(always)]
@@ -32,7 +27,7 @@ pub fn append_slice(bytes: &mut Vec<u8>, source: &[u8])
     ensures items { bytes.new.items ≡ bytes.old.items ++ source.now }
     ensures capacity { vec_capacity bytes.new ≡ vec_capacity bytes.old }
 {
-    if source.len() <= BLOCK {
+    if source.len() <= SHORT {
         append_short(bytes, source);
     } else {
         append_long(bytes, source);
@@ -58,24 +53,24 @@ pub fn try_append_char(bytes: &mut Vec<u8>, character: char) -> bool
     if bytes.capacity() - bytes.len() < 4 {
         return false;
     }
-    let (piece, len) = encoded(character);
-    append_front(bytes, piece, len);
+    replace_with(bytes, encoded(character), with_front);
     true
 }
 
-/// Appends the first `count` of four bytes.
+/// Returns the vector with the first `count` of four bytes appended.
 #[inline(always)]
-fn append_front(bytes: &mut Vec<u8>, piece: [u8; 4], count: usize)
-    requires most { count ≤ 4 }
-    requires room { vec_len bytes.old + 4 ≤ vec_capacity bytes.old }
-    ensures items { bytes.new.items ≡ bytes.old.items ++ take count piece }
-    ensures capacity { vec_capacity bytes.new ≡ vec_capacity bytes.old }
+fn with_front(vec: Vec<u8>, front: ([u8; 4], usize)) -> (Vec<u8>, ())
+    requires most { front.1 ≤ 4 }
+    requires room { vec_len vec + 4 ≤ vec_capacity vec }
+    ensures items { result.0.items ≡ vec.items ++ take front.1 front.0 }
+    ensures capacity { vec_capacity result.0 ≡ vec_capacity vec }
 {
-    let mut vec = take_vec(bytes);
+    let mut vec = vec;
+    let (piece, count) = front;
     let len = vec.len();
     append_array::<4>(&mut vec, piece);
     vec.truncate(len + count);
-    restore_vec(bytes, vec);
+    (vec, ())
 }
 
 /// Appends at most 32 bytes.
@@ -88,38 +83,19 @@ fn append_short(bytes: &mut Vec<u8>, source: &[u8])
 {
     let count = source.len();
     if count > 16 {
-        append_overlapping::<16>(bytes, source);
+        replace_with(bytes, source, with_ends::<16>);
     } else if count >= 8 {
-        append_overlapping::<8>(bytes, source);
+        replace_with(bytes, source, with_ends::<8>);
     } else if count >= 4 {
-        append_overlapping::<4>(bytes, source);
+        replace_with(bytes, source, with_ends::<4>);
     } else if count >= 2 {
-        append_overlapping::<2>(bytes, source);
+        replace_with(bytes, source, with_ends::<2>);
     } else if count == 1 {
         bytes.push_reserved(source[0]);
     }
 }
 
-/// Appends `source` to a vector that is local to the caller.
-#[inline(always)]
-pub fn append_to_local(vec: &mut Vec<u8>, source: &[u8])
-    requires { vec_len vec.old + length source.now ≤ vec_capacity vec.old }
-    ensures items { vec.new.items ≡ vec.old.items ++ source.now }
-    ensures capacity { vec_capacity vec.new ≡ vec_capacity vec.old }
-{
-    if source.len() <= BLOCK {
-        append_short(vec, source);
-    } else if source.len() <= MAX_UNROLLED {
-        append_up_to_256(vec, source);
-    } else {
-        // A vector of its own, so that the caller's needs no address.
-        let mut moved = take_vec(vec);
-        append_in_loop(&mut moved, source);
-        restore_vec(vec, moved);
-    }
-}
-
-/// Appends more than 32 bytes through a reference.
+/// Appends more than 32 bytes. Not inlined, so that a short append needs no stack.
 #[inline(never)]
 fn append_long(bytes: &mut Vec<u8>, source: &[u8])
     requires long { 32 < length source.now }
@@ -128,68 +104,103 @@ fn append_long(bytes: &mut Vec<u8>, source: &[u8])
     ensures capacity { vec_capacity bytes.new ≡ vec_capacity bytes.old }
 {
     if source.len() <= MAX_UNROLLED {
-        append_up_to_256(bytes, source);
+        append_up_to_128(bytes, source);
+    } else if source.len() <= BLOCK {
+        append_block(bytes, source);
     } else {
-        append_in_loop(bytes, source);
+        append_blocks::<BLOCK>(bytes, source);
     }
 }
 
-/// Appends 33 to 256 bytes as both ends, with the middle if they leave one.
+/// Appends 33 to 128 bytes as both ends.
 #[inline(always)]
-fn append_up_to_256(bytes: &mut Vec<u8>, source: &[u8])
+fn append_up_to_128(bytes: &mut Vec<u8>, source: &[u8])
     requires long { 32 < length source.now }
-    requires most { length source.now ≤ 256 }
+    requires most { length source.now ≤ 128 }
     requires room { vec_len bytes.old + length source.now ≤ vec_capacity bytes.old }
     ensures items { bytes.new.items ≡ bytes.old.items ++ source.now }
     ensures capacity { vec_capacity bytes.new ≡ vec_capacity bytes.old }
 {
-    let count = source.len();
-    if count <= 64 {
-        append_overlapping::<32>(bytes, source);
-    } else if count <= 128 {
-        append_overlapping::<64>(bytes, source);
-    } else if count <= 192 {
-        append_in_blocks::<64>(bytes, source);
+    if source.len() <= 64 {
+        replace_with(bytes, source, with_ends::<32>);
     } else {
-        append_overlapping::<128>(bytes, source);
+        replace_with(bytes, source, with_ends::<64>);
     }
 }
 
-/// Appends more than 256 bytes in long blocks. A function of its own, so that a shorter text saves no registers.
+/// Appends at most a block by one copy.
 #[inline(never)]
-fn append_in_loop(bytes: &mut Vec<u8>, source: &[u8])
-    requires long { 256 < length source.now }
+fn append_block(bytes: &mut Vec<u8>, source: &[u8])
+    requires most { length source.now ≤ BLOCK }
     requires room { vec_len bytes.old + length source.now ≤ vec_capacity bytes.old }
     ensures items { bytes.new.items ≡ bytes.old.items ++ source.now }
+    ensures len { vec_len bytes.new ≡ vec_len bytes.old + length source.now }
     ensures capacity { vec_capacity bytes.new ≡ vec_capacity bytes.old }
 {
-    if source.len() <= 2 * WHOLE_BLOCK {
-        append_in_blocks::<LONG_BLOCK>(bytes, source);
-    } else {
-        append_in_blocks::<WHOLE_BLOCK>(bytes, source);
-    }
+    replace_with(bytes, source, with_block);
 }
 
-/// Appends `source`, which has at least `N` bytes, in blocks of `N`, of which the last overlaps the one before.
+/// Copies `source` into a new vector of `capacity` bytes, at least its length.
+///
+/// # Errors
+///
+/// Returns `AllocError` if no memory is found.
+#[inline(never)]
+pub fn copied(alloc: Global, source: &[u8], capacity: usize) -> Result<Vec<u8>, AllocError>
+    requires { length source.now ≤ capacity }
+    ensures items { IfOk result (λ v. v.items ≡ source.now) }
+    ensures capacity { IfOk result (λ v. vec_capacity v ≡ capacity) }
+{
+    let mut vec = Vec::with_capacity(alloc, capacity)?;
+    if source.len() <= SHORT {
+        append_short(&mut vec, source);
+    } else if source.len() <= MAX_UNROLLED {
+        append_up_to_128(&mut vec, source);
+    } else if source.len() <= BLOCK {
+        replace_with(&mut vec, source, with_block);
+    } else {
+        // A vector of its own, so that the other needs no address.
+        let mut long = vec;
+        append_blocks::<BLOCK>(&mut long, source);
+        return Ok(long);
+    }
+    Ok(vec)
+}
+
+/// Returns the vector with at most a block appended.
+///
+/// Through an array, so that the compiler sees that the bytes that are read are not those that are written: it makes each loop a
+/// copy, and the two one copy, without the array. It does so where nothing else is done, so inline this only there.
 #[inline(always)]
-fn append_in_blocks<const N: usize>(bytes: &mut Vec<u8>, source: &[u8])
+fn with_block(vec: Vec<u8>, source: &[u8]) -> (Vec<u8>, ())
+    requires most { length source.now ≤ BLOCK }
+    requires room { vec_len vec + length source.now ≤ vec_capacity vec }
+    ensures items { result.0.items ≡ vec.items ++ source.now }
+    ensures capacity { vec_capacity result.0 ≡ vec_capacity vec }
+{
+    let mut vec = vec;
+    let mut array = [0; BLOCK];
+    let copy = &mut array[..source.len()];
+    copy_each(copy, source);
+    append_each(&mut vec, copy);
+    (vec, ())
+}
+
+/// Appends `source`, `N` bytes at a time.
+#[inline(never)]
+fn append_blocks<const N: usize>(bytes: &mut Vec<u8>, source: &[u8])
     requires some { 0 < N }
-    requires least { N ≤ length source.now }
+    requires most { N ≤ BLOCK }
     requires room { vec_len bytes.old + length source.now ≤ vec_capacity bytes.old }
     ensures items { bytes.new.items ≡ bytes.old.items ++ source.now }
     ensures capacity { vec_capacity bytes.new ≡ vec_capacity bytes.old }
 {
-    let mut vec = take_vec(bytes);
-    let len = vec.len();
-    let last = source.len() - N;
-    let mut done = 0;
-    'copies: while done < last {
-        append_array::<N>(&mut vec, array_at::<N>(source, done));
-        done += N;
+    let mut rest = source;
+    'copies: while N < rest.len() {
+        append_block(bytes, &rest[..N]);
+        rest = &rest[N..];
     }
-    vec.truncate(len + last);
-    append_array::<N>(&mut vec, array_at::<N>(source, last));
-    restore_vec(bytes, vec);
+    append_block(bytes, rest);
 }
 
 /// Removes and returns the last byte if it is ASCII; otherwise changes nothing. Unlike `truncate`, compares no
@@ -228,44 +239,7 @@ pub fn splice(bytes: &mut Vec<u8>, start: usize, end: usize, source: &[u8])
     }
 }
 
-/// Inserts `source`, 1 to 4 bytes, at `index`.
-#[inline(always)]
-pub fn insert_short(bytes: &mut Vec<u8>, index: usize, source: &[u8])
-    requires least { 1 ≤ length source.now }
-    requires most { length source.now ≤ 4 }
-    requires within { index ≤ vec_len bytes.old }
-    requires room { vec_len bytes.old + length source.now ≤ vec_capacity bytes.old }
-    ensures items { bytes.new.items ≡ replace_range bytes.old.items index index source.now }
-    ensures capacity { vec_capacity bytes.new ≡ vec_capacity bytes.old }
-{
-    match source.len() {
-        1 => insert_part::<1>(bytes, index, source),
-        2 => insert_part::<2>(bytes, index, source),
-        3 => insert_part::<3>(bytes, index, source),
-        _ => insert_part::<4>(bytes, index, source),
-    }
-}
-
-/// Inserts `source`, which has `N` bytes, at `index`.
-#[inline(always)]
-fn insert_part<const N: usize>(bytes: &mut Vec<u8>, index: usize, source: &[u8])
-    requires source { length source.now ≡ N }
-    requires within { index ≤ vec_len bytes.old }
-    requires room { vec_len bytes.old + N ≤ vec_capacity bytes.old }
-    ensures items { bytes.new.items ≡ replace_range bytes.old.items index index source.now }
-    ensures capacity { vec_capacity bytes.new ≡ vec_capacity bytes.old }
-{
-    let mut vec = take_vec(bytes);
-    let len = vec.len();
-    // Only lengthens the vector; the values are overwritten.
-    append_array::<N>(&mut vec, array_at::<N>(source, 0));
-    slices::insert_part::<N>(vec.as_mut_slice(), len, index, source);
-    restore_vec(bytes, vec);
-}
-
-/// Appends zeros, one by one, up to a length of `len` bytes.
-#[inline(never)]
-#[tactic(auto, using(crate::proofs::Appends::one_more_zero))]
+/// Appends zeros up to a length of `len` bytes.
 pub fn append_zeros(bytes: &mut Vec<u8>, len: usize)
     requires longer { vec_len bytes.old ≤ len }
     requires room { len ≤ vec_capacity bytes.old }
@@ -273,11 +247,24 @@ pub fn append_zeros(bytes: &mut Vec<u8>, len: usize)
     ensures len { vec_len bytes.new ≡ len }
     ensures capacity { vec_capacity bytes.new ≡ vec_capacity bytes.old }
 {
-    let mut vec = take_vec(bytes);
+    replace_with(bytes, len, with_zeros);
+}
+
+/// Returns the vector with zeros appended up to a length of `len` bytes.
+#[inline(always)]
+#[tactic(auto, using(crate::proofs::Appends::one_more_zero))]
+fn with_zeros(vec: Vec<u8>, len: usize) -> (Vec<u8>, ())
+    requires longer { vec_len vec ≤ len }
+    requires room { len ≤ vec_capacity vec }
+    ensures items { result.0.items ≡ vec.items ++ replicate (len - vec_len vec) 0 }
+    ensures len { vec_len result.0 ≡ len }
+    ensures capacity { vec_capacity result.0 ≡ vec_capacity vec }
+{
+    let mut vec = vec;
     for _ in vec.len()..len {
         vec.push_reserved(0);
     }
-    restore_vec(bytes, vec);
+    (vec, ())
 }
 
 /// Appends a part of the vector to its end.
@@ -289,59 +276,75 @@ pub fn append_within(bytes: &mut Vec<u8>, start: usize, end: usize)
         ≡ bytes.old.items ++ take (end - start) (drop start bytes.old.items) }
     ensures capacity { vec_capacity bytes.new ≡ vec_capacity bytes.old }
 {
-    let mut vec = take_vec(bytes);
-    let count = end - start;
-    if count >= LONG_BLOCK {
-        append_blocks_within::<LONG_BLOCK>(&mut vec, start, end);
-    } else if count >= BLOCK {
-        append_blocks_within::<BLOCK>(&mut vec, start, end);
-    } else if count >= 8 {
-        append_blocks_within::<8>(&mut vec, start, end);
-    } else if count > 0 {
-        append_blocks_within::<1>(&mut vec, start, end);
-    }
-    restore_vec(bytes, vec);
+    append_blocks_within::<BLOCK>(bytes, start, end - start);
 }
 
-/// Appends the part from `start` to `end`, which has at least `N` bytes, as `append_in_blocks` does.
+/// Appends `count` bytes from `start` on, `N` bytes at a time.
 #[inline(always)]
-fn append_blocks_within<const N: usize>(vec: &mut Vec<u8>, start: usize, end: usize)
+fn append_blocks_within<const N: usize>(bytes: &mut Vec<u8>, start: usize, count: usize)
     requires some { 0 < N }
-    requires least { start + N ≤ end }
-    requires within { end ≤ vec_len vec.old }
-    requires room { vec_len vec.old + (end - start) ≤ vec_capacity vec.old }
-    ensures items { vec.new.items ≡ vec.old.items ++ take (end - start) (drop start vec.old.items) }
-    ensures capacity { vec_capacity vec.new ≡ vec_capacity vec.old }
-{
-    let len = vec.len();
-    let last = end - N;
-    let mut at = start;
-    'copies: while at < last {
-        let block = array_at::<N>(vec.as_slice(), at);
-        append_array::<N>(vec, block);
-        at += N;
-    }
-    vec.truncate(len + (last - start));
-    let block = array_at::<N>(vec.as_slice(), last);
-    append_array::<N>(vec, block);
-}
-
-/// Appends `source`, which has `N` to `2 * N` bytes, as its first `N` and its last `N`, without the overlap twice.
-#[inline(always)]
-fn append_overlapping<const N: usize>(bytes: &mut Vec<u8>, source: &[u8])
-    requires least { N ≤ length source.now }
-    requires most { length source.now ≤ N + N }
-    requires room { vec_len bytes.old + length source.now ≤ vec_capacity bytes.old }
-    ensures items { bytes.new.items ≡ bytes.old.items ++ source.now }
+    requires most { N ≤ BLOCK }
+    requires within { start + count ≤ vec_len bytes.old }
+    requires room { vec_len bytes.old + count ≤ vec_capacity bytes.old }
+    ensures items { bytes.new.items ≡ bytes.old.items ++ take count (drop start bytes.old.items) }
     ensures capacity { vec_capacity bytes.new ≡ vec_capacity bytes.old }
 {
-    let rest = source.len() - N;
-    let mut vec = take_vec(bytes);
+    let mut done = 0;
+    'copies: while N < count - done {
+        append_block_within(bytes, start + done, N);
+        done += N;
+    }
+    append_block_within(bytes, start + done, count - done);
+}
+
+/// Appends at most a block from `start` on.
+#[inline(never)]
+fn append_block_within(bytes: &mut Vec<u8>, start: usize, count: usize)
+    requires most { count ≤ BLOCK }
+    requires within { start + count ≤ vec_len bytes.old }
+    requires room { vec_len bytes.old + count ≤ vec_capacity bytes.old }
+    ensures items { bytes.new.items ≡ bytes.old.items ++ take count (drop start bytes.old.items) }
+    ensures len { vec_len bytes.new ≡ vec_len bytes.old + count }
+    ensures capacity { vec_capacity bytes.new ≡ vec_capacity bytes.old }
+{
+    replace_with(bytes, (start, count), with_block_within);
+}
+
+/// Returns the vector with at most a block of its own appended, as `with_block` does.
+#[inline(always)]
+fn with_block_within(vec: Vec<u8>, part: (usize, usize)) -> (Vec<u8>, ())
+    requires most { part.1 ≤ BLOCK }
+    requires within { part.0 + part.1 ≤ vec_len vec }
+    requires room { vec_len vec + part.1 ≤ vec_capacity vec }
+    ensures items { result.0.items ≡ vec.items ++ take part.1 (drop part.0 vec.items) }
+    ensures capacity { vec_capacity result.0 ≡ vec_capacity vec }
+{
+    let mut vec = vec;
+    let (start, count) = part;
+    let mut array = [0; BLOCK];
+    let copy = &mut array[..count];
+    copy_each(copy, &vec.as_slice()[start..][..count]);
+    append_each(&mut vec, copy);
+    (vec, ())
+}
+
+/// Returns the vector with `source`, which has `N` to `2 * N` bytes, appended as its first `N` and its last `N`, without the
+/// overlap twice.
+#[inline(always)]
+fn with_ends<const N: usize>(vec: Vec<u8>, source: &[u8]) -> (Vec<u8>, ())
+    requires least { N ≤ length source.now }
+    requires most { length source.now ≤ N + N }
+    requires room { vec_len vec + length source.now ≤ vec_capacity vec }
+    ensures items { result.0.items ≡ vec.items ++ source.now }
+    ensures capacity { vec_capacity result.0 ≡ vec_capacity vec }
+{
+    let mut vec = vec;
     let len = vec.len();
+    let rest = source.len() - N;
     append_array::<N>(&mut vec, array_at::<N>(source, 0));
     vec.truncate(len + rest);
     append_array::<N>(&mut vec, array_at::<N>(source, rest));
-    restore_vec(bytes, vec);
+    (vec, ())
 }
 
 /// Appends `piece`.
@@ -352,26 +355,18 @@ fn append_array<const N: usize>(vec: &mut Vec<u8>, piece: [u8; N])
     ensures len { vec_len vec.new ≡ vec_len vec.old + N }
     ensures capacity { vec_capacity vec.new ≡ vec_capacity vec.old }
 {
-    for i in 0..N {
-        vec.push_reserved(piece[i]);
+    append_each(vec, &piece);
+}
+
+/// Appends `source` byte by byte, which the compiler makes one copy, as in `copy_each`.
+#[inline(always)]
+fn append_each(vec: &mut Vec<u8>, source: &[u8])
+    requires { vec_len vec.old + length source.now ≤ vec_capacity vec.old }
+    ensures items { vec.new.items ≡ vec.old.items ++ source.now }
+    ensures len { vec_len vec.new ≡ vec_len vec.old + length source.now }
+    ensures capacity { vec_capacity vec.new ≡ vec_capacity vec.old }
+{
+    for i in 0..source.len() {
+        vec.push_reserved(source[i]);
     }
-}
-
-/// Moves the vector out; `restore_vec` returns it.
-#[inline(always)]
-fn take_vec(bytes: &mut Vec<u8>) -> Vec<u8>
-    ensures value { result ≡ bytes.old }
-    ensures left { vec_capacity bytes.new ≡ 0 }
-{
-    let alloc = *bytes.allocator();
-    mem::replace(bytes, Vec::new(alloc))
-}
-
-/// Moves the vector back. The one it replaces has no buffer to free.
-#[inline(always)]
-fn restore_vec(bytes: &mut Vec<u8>, vec: Vec<u8>)
-    requires { vec_capacity bytes.old ≡ 0 }
-    ensures { bytes.new ≡ vec }
-{
-    mem::forget(mem::replace(bytes, vec));
 }

@@ -10,6 +10,7 @@ use super::read::number_of;
 use super::{WireError, read_wire};
 use compact_codec::utf8::is_utf8;
 use compact_str::{CompactString, INLINE_CAPACITY, ReserveError};
+use compact_text::vec;
 use std::alloc::Global;
 use std::io;
 use std::io::{BufRead, ErrorKind};
@@ -178,12 +179,7 @@ fn with_exact_capacity(alloc: Global, bytes: &[u8]) -> Result<CompactString, Res
     if bytes.len() <= INLINE_CAPACITY {
         return CompactString::from_utf8_unchecked(alloc, bytes);
     }
-    let mut copy = Vec::with_capacity(alloc, bytes.len())?;
-    copy.extend_from_slice(bytes)?;
-    if copy.capacity() != bytes.len() {
-        // Never reached, but `extend_from_slice` says only that the capacity does not shrink.
-        return Err(ReserveError);
-    }
+    let copy = vec::copied(alloc, bytes, bytes.len())?;
     let text = unsafe { String::from_utf8_unchecked(copy) };
     Ok(CompactString::from(text))
 }

@@ -41,7 +41,7 @@ impl<P: Policy> Repr<P> {
         if character.is_ascii() {
             return self.try_push_ascii(character as u8);
         }
-        // Apart from the match, and first, so that the compiler tests for a heap text first and for a static one last.
+        // Apart from the match, and first: current compilers then test for a heap text first, and for a static one last.
         if let Buffer::Inline(_, inline) = &mut self.buffer {
             return inline.try_push(character);
         }
@@ -51,7 +51,7 @@ impl<P: Policy> Repr<P> {
         }
     }
 
-    /// `try_push` of an ASCII character, which a loop over such text tests for before the place.
+    /// `try_push` of an ASCII character, which a loop over such text tests for before the place. In the same order.
     #[inline(always)]
     fn try_push_ascii(&mut self, byte: u8) -> bool
         requires { byte < 128 }
@@ -132,7 +132,7 @@ impl<P: Policy> Repr<P> {
         match &mut self.buffer {
             Buffer::Static(_) => false,
             Buffer::Inline(_, inline) => inline.try_replace_range(index, index, text),
-            Buffer::Heap(heap) => heap.try_insert_short(index, text),
+            Buffer::Heap(heap) => heap.try_replace_range(index, index, text),
         }
     }
 

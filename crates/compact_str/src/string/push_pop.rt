@@ -82,8 +82,7 @@ impl<P: Policy> PolicyString<P> {
         self.push_slow(character)
     }
 
-    /// `push` of a character that `try_push` did not append. Not inlined, so that a loop of appends stays short, and cold, so
-    /// that it jumps once for a character.
+    /// `push` of a character that `try_push` did not append. Not inlined and cold, so that a loop of appends stays short.
     #[cold]
     #[inline(never)]
     #[tactic(auto, using(compact_repr::proofs::PlacementLemmas::placed_facts))]

@@ -1,19 +1,16 @@
-//! Overlapping moves within a byte slice.
-//!
-//! Up to 128 bytes move by both ends, which are read before either is written. More move by one `memmove` if the
-//! distance is one to four bytes, and otherwise in blocks, from the end if they move up: by a `memmove` for each 2048
-//! bytes, and then 64 bytes at a time.
+//! Overlapping moves within a byte slice: up to 128 bytes by both ends, which are read before either is written; more by one
+//! `memmove` for each block, from the end if they move up.
 #![tactic(auto, using(crate::proofs::TextFacts::text_facts, crate::proofs::Facts::moves_facts))]
 
-ghost use Rattle.std.specs.Prelude.{◌≡◌, ◌+◌, ◌-◌, ◌≤◌, length, drop};
+ghost use Rattle.std.specs.Prelude.{◌≡◌, ◌+◌, ◌-◌, ◌≤◌, ◌<◌, length, drop};
 ghost use lib.Seq.{paste};
 
 use super::simd::{load, store};
-use super::{array_at, set_array};
+use super::{BLOCK, copy_each};
 
 /// Moves `count` bytes from `from` to `to`, which may overlap.
 #[inline(always)]
-#[tactic(auto, using(crate::proofs::MovesByBlock::move_facts, crate::proofs::Facts::moves_facts))]
+#[tactic(auto, using(crate::proofs::MovesByBlock::paste_same, crate::proofs::Facts::moves_facts))]
 pub fn move_bytes(slice: &mut [u8], from: usize, to: usize, count: usize)
     requires source { from + count ≤ length slice.old }
     requires target { to + count ≤ length slice.old }
@@ -22,128 +19,81 @@ pub fn move_bytes(slice: &mut [u8], from: usize, to: usize, count: usize)
     if from == to {
         return;
     }
-    if count <= 2 * BLOCK {
+    if count <= 128 {
         move_up_to_128(slice, from, to, count);
-    } else if from < to {
-        match to - from {
-            1 => move_up::<1>(slice, from, count),
-            2 => move_up::<2>(slice, from, count),
-            3 => move_up::<3>(slice, from, count),
-            4 => move_up::<4>(slice, from, count),
-            _ => move_blocks_up(slice, from, to, count),
-        }
     } else {
-        match from - to {
-            1 => move_down::<1>(slice, to, count),
-            2 => move_down::<2>(slice, to, count),
-            3 => move_down::<3>(slice, to, count),
-            4 => move_down::<4>(slice, to, count),
-            _ => move_blocks_down(slice, from, to, count),
-        }
+        move_long(slice, from, to, count);
     }
 }
 
-/// Moves `count` bytes up by `DISTANCE` places.
-#[inline(always)]
-pub fn move_up<const DISTANCE: usize>(slice: &mut [u8], from: usize, count: usize)
-    requires { from + DISTANCE + count ≤ length slice.old }
-    ensures { slice.new ≡ paste slice.old (from + DISTANCE) (drop from slice.old) count }
-{
-    move_whole_up::<DISTANCE>(&mut slice[from..from + DISTANCE + count]);
-}
-
-/// Moves `count` bytes down by `DISTANCE` places.
-#[inline(always)]
-pub fn move_down<const DISTANCE: usize>(slice: &mut [u8], to: usize, count: usize)
-    requires { to + DISTANCE + count ≤ length slice.old }
-    ensures { slice.new ≡ paste slice.old to (drop (to + DISTANCE) slice.old) count }
-{
-    move_whole_down::<DISTANCE>(&mut slice[to..to + DISTANCE + count]);
-}
-
-/// Moves all but the last `DISTANCE` bytes up by `DISTANCE`.
-///
-/// A separate function: with a constant distance it is one `memmove`.
+/// Moves more than 128 bytes. Not inlined, so that a short move can be.
 #[inline(never)]
-fn move_whole_up<const DISTANCE: usize>(part: &mut [u8])
-    requires { DISTANCE ≤ length part.old }
-    ensures { part.new ≡ paste part.old DISTANCE part.old (length part.old - DISTANCE) }
+fn move_long(slice: &mut [u8], from: usize, to: usize, count: usize)
+    requires source { from + count ≤ length slice.old }
+    requires target { to + count ≤ length slice.old }
+    ensures { slice.new ≡ paste slice.old to (drop from slice.old) count }
 {
-    let count = part.len() - DISTANCE;
-    part.copy_within(0..count, DISTANCE);
+    if count <= BLOCK {
+        move_block(slice, from, to, count);
+    } else if from < to {
+        move_blocks_up::<BLOCK>(slice, from, to, count);
+    } else {
+        move_blocks_down::<BLOCK>(slice, from, to, count);
+    }
 }
 
-/// Moves all but the first `DISTANCE` bytes down by `DISTANCE`.
-///
-/// A separate function: with a constant distance it is one `memmove`.
+/// Moves at most a block by one `memmove`, without the array, as in `vec::with_block`.
 #[inline(never)]
-fn move_whole_down<const DISTANCE: usize>(part: &mut [u8])
-    requires { DISTANCE ≤ length part.old }
-    ensures { part.new ≡ paste part.old 0 (drop DISTANCE part.old) (length part.old - DISTANCE) }
+fn move_block(slice: &mut [u8], from: usize, to: usize, count: usize)
+    requires most { count ≤ BLOCK }
+    requires source { from + count ≤ length slice.old }
+    requires target { to + count ≤ length slice.old }
+    ensures { slice.new ≡ paste slice.old to (drop from slice.old) count }
 {
-    let len = part.len();
-    part.copy_within(DISTANCE..len, 0);
+    let mut array = [0; BLOCK];
+    let copy = &mut array[..count];
+    copy_each(copy, &slice[from..from + count]);
+    copy_each(&mut slice[to..to + count], copy);
 }
-
-/// The block size.
-const BLOCK: usize = 64;
-
-/// The block size of a long move.
-const LONG_BLOCK: usize = 2048;
 
 /// Moves bytes up, the last ones first.
 #[inline(never)]
-fn move_blocks_up(slice: &mut [u8], from: usize, to: usize, count: usize)
+fn move_blocks_up<const N: usize>(slice: &mut [u8], from: usize, to: usize, count: usize)
+    requires some { 0 < N }
+    requires most { N ≤ BLOCK }
     requires upward { from ≤ to }
     requires target { to + count ≤ length slice.old }
     ensures { slice.new ≡ paste slice.old to (drop from slice.old) count }
 {
     let mut left = count;
-    'long_moves: while LONG_BLOCK < left {
-        left -= LONG_BLOCK;
-        move_array::<LONG_BLOCK>(slice, from + left, to + left);
+    'moves: while N < left {
+        left -= N;
+        move_block(slice, from + left, to + left, N);
     }
-    'moves: while BLOCK < left {
-        left -= BLOCK;
-        move_overlapping::<BLOCK>(slice, from + left, to + left, BLOCK);
-    }
-    move_up_to_128(slice, from, to, left);
+    move_block(slice, from, to, left);
 }
 
 /// Moves bytes down, the first ones first.
 #[inline(never)]
-fn move_blocks_down(slice: &mut [u8], from: usize, to: usize, count: usize)
+fn move_blocks_down<const N: usize>(slice: &mut [u8], from: usize, to: usize, count: usize)
+    requires some { 0 < N }
+    requires most { N ≤ BLOCK }
     requires downward { to ≤ from }
     requires source { from + count ≤ length slice.old }
     ensures { slice.new ≡ paste slice.old to (drop from slice.old) count }
 {
     let mut done = 0;
-    'long_moves: while LONG_BLOCK < count - done {
-        move_array::<LONG_BLOCK>(slice, from + done, to + done);
-        done += LONG_BLOCK;
+    'moves: while N < count - done {
+        move_block(slice, from + done, to + done, N);
+        done += N;
     }
-    'moves: while BLOCK < count - done {
-        move_overlapping::<BLOCK>(slice, from + done, to + done, BLOCK);
-        done += BLOCK;
-    }
-    move_up_to_128(slice, from + done, to + done, count - done);
+    move_block(slice, from + done, to + done, count - done);
 }
 
-/// Moves `N` bytes, by one `memmove` if they are many.
-#[inline(always)]
-fn move_array<const N: usize>(slice: &mut [u8], from: usize, to: usize)
-    requires source { from + N ≤ length slice.old }
-    requires target { to + N ≤ length slice.old }
-    ensures { slice.new ≡ paste slice.old to (drop from slice.old) N }
-{
-    let array = array_at::<N>(slice, from);
-    set_array::<N>(&mut slice[to..to + N], array);
-}
-
-/// Moves at most two blocks.
+/// Moves at most 128 bytes.
 #[inline(always)]
 fn move_up_to_128(slice: &mut [u8], from: usize, to: usize, count: usize)
-    requires two_blocks { count ≤ 128 }
+    requires most { count ≤ 128 }
     requires source { from + count ≤ length slice.old }
     requires target { to + count ≤ length slice.old }
     ensures { slice.new ≡ paste slice.old to (drop from slice.old) count }

@@ -3,15 +3,8 @@ use lib.Seq.{paste}
 use Rattle.compact_text.proofs.slices.moves.move_blocks_down.Given as goal
 
 -- the first `done` bytes have moved
-abbrev pub invariant-long_moves : goal.invariant-long_moves
-invariant-long_moves l = (l.done ≤ l.count)
-    × (l.slice ≡ paste l.fn.slice l.to (drop l.from l.fn.slice) l.done)
-
-abbrev pub decreases-long_moves : goal.decreases-long_moves
-decreases-long_moves l = l.count - l.done
-
 abbrev pub invariant-moves : goal.invariant-moves
-invariant-moves l = (l.done ≤ l.count) × (l.slice ≡ paste l.fn.slice l.to (drop l.from l.fn.slice) l.done)
+invariant-moves n l = (l.done ≤ l.count) × (l.slice ≡ paste l.fn.slice l.to (drop l.from l.fn.slice) l.done)
 
 abbrev pub decreases-moves : goal.decreases-moves
-decreases-moves l = l.count - l.done
+decreases-moves n l = l.count - l.done

@@ -1,6 +1,6 @@
 use Rattle.std.proofs.Common.{◌≡◌, ◌-◌, ◌++◌, replicate}
 use Rattle.std.specs.Vec.{vec_len, vec_capacity}
-use Rattle.compact_text.proofs.vec.append_zeros.Given as goal
+use Rattle.compact_text.proofs.vec.with_zeros.Given as goal
 
 -- The counter is the vector's length, and zeros follow the old bytes.
 abbrev pub invariant-loop : goal.invariant-loop
