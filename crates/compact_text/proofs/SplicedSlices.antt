@@ -38,18 +38,6 @@ replace_range-paste slice s len start end order within held room =
     ∙ ap (λ x. take start slice ++ s ++ x) (between_is slice end len)
     ∙ ap (λ x. x ++ s ++ drop end (take len slice)) (sym (take-take start len slice (omega arith)))
 
--- s is inserted: the tail moves up
-pub part-in : (slice moved s : List ℕ) (len at n : ℕ) → length s ≡ n → at ≤ len → len + n ≤ length slice
-    → moved ≡ paste slice (at + n) (drop at slice) (len - at)
-    → take (len + n) (paste moved at s (length s)) ≡ replace_range (take len slice) at at s
-part-in slice moved s len at n long within room e =
-    let more : len + n ≡ len - (at - at) + length s = omega arith in
-    let to : at + n ≡ at + length s = omega arith in
-    ap (λ (k : ℕ). take k (paste moved at s (length s))) more
-    ∙ ap (λ x. take (len - (at - at) + length s) (paste x at s (length s)))
-    (e ∙ ap (λ (k : ℕ). paste slice k (drop at slice) (len - at)) to)
-    ∙ replace_range-paste slice s len at at (omega arith) within (omega arith) (omega arith)
-
 -- a part is removed: the tail moves to its start
 pub part-out : (slice moved : List ℕ) (len start end : ℕ) → start ≤ end → end ≤ len → len ≤ length slice
     → moved ≡ paste slice start (drop end slice) (len - end)

@@ -112,12 +112,13 @@ pub fn array_at<const N: usize>(source: &[u8], at: usize) -> [u8; N]
     }
 }
 
-/// The most bytes that one copy moves.
+/// The most bytes that are copied through an array, which LLVM removes. The kit's own compiler zeroes it for each copy.
 pub const BLOCK: usize = 16384;
 
-/// Copies `source` to `target`, of the same length. A plain loop: the compiler makes it one copy if it sees that they do not
-/// overlap, as a local array and anything else, and two such copies through an array that is then not needed one move.
+/// Copies `source` to `target`, of the same length. A plain loop, which the compiler makes one copy if one of the two is a
+/// local array, as in `vec::with_block`.
 #[inline(always)]
+#[tactic(auto, using(crate::proofs::Facts::copy_facts))]
 pub fn copy_each(target: &mut [u8], source: &[u8])
     requires { length source.now ≡ length target.old }
     ensures { target.new ≡ source.now }

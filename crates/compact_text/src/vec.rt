@@ -1,6 +1,7 @@
 //! Appends within a vector's reserved capacity.
 //!
-//! The loops move the vector out of its reference first.
+//! The functions `with_..` take the vector and return it, for `replace_with`: a vector behind a reference would be written
+//! for each byte.
 #![tactic(auto, using(crate::proofs::TextFacts::text_facts, crate::proofs::Facts::vec_facts))]
 
 ghost use Rattle.std.specs.Prelude.{◌≡◌, ◌+◌, ◌-◌, ◌<◌, ◌≤◌, [], ◌∷◌, ◌++◌, length, take, drop, replicate, IsTrue, ◌↔◌, false, IfSome, IfOk, None};
@@ -169,8 +170,8 @@ pub fn copied(alloc: Global, source: &[u8], capacity: usize) -> Result<Vec<u8>, 
 
 /// Returns the vector with at most a block appended.
 ///
-/// Through an array, so that the compiler sees that the bytes that are read are not those that are written: it makes each loop a
-/// copy, and the two one copy, without the array. It does so where nothing else is done, so inline this only there.
+/// Copies through an array, so that the compiler sees that no byte is read after it was written. It makes each loop a copy,
+/// and both one `memmove` without the array, but only in a function that does little else: so inline this only there.
 #[inline(always)]
 fn with_block(vec: Vec<u8>, source: &[u8]) -> (Vec<u8>, ())
     requires most { length source.now ≤ BLOCK }
@@ -358,7 +359,7 @@ fn append_array<const N: usize>(vec: &mut Vec<u8>, piece: [u8; N])
     append_each(vec, &piece);
 }
 
-/// Appends `source` byte by byte, which the compiler makes one copy, as in `copy_each`.
+/// Appends `source` byte by byte. The compiler makes it one copy, as `copy_each`.
 #[inline(always)]
 fn append_each(vec: &mut Vec<u8>, source: &[u8])
     requires { vec_len vec.old + length source.now ≤ vec_capacity vec.old }

@@ -42,7 +42,7 @@ fn move_long(slice: &mut [u8], from: usize, to: usize, count: usize)
     }
 }
 
-/// Moves at most a block by one `memmove`, without the array, as in `vec::with_block`.
+/// Moves at most a block: by one `memmove`, without the array, as `vec::with_block`.
 #[inline(never)]
 fn move_block(slice: &mut [u8], from: usize, to: usize, count: usize)
     requires most { count ≤ BLOCK }
