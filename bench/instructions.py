@@ -24,15 +24,12 @@ STRING, CRATE, OURS = 0, 1, 3
 LIMIT = 1.25
 # A row with at most this ratio of instructions is slow for another reason than what it does.
 ALIKE = 1.10
-# With at most this ratio, a peer copies by `rep movsb`, which counts as an instruction a byte.
-COPIED = 0.7
 REASONS = {
     "alike": "at most 1.10 of the instructions: where the code lies, or what it waits for",
-    "copies": "a long text is copied 1024 bytes at a time, or moved by 2048, where a peer makes one copy",
     "place": "each call tests where the text is, inline, on the heap or static, and decodes an inline length",
     "append": "the row first clears a value and appends a text, which tests the place twice; then as `place`",
     "gather": "the length is not known before, so pieces are gathered in a block and then copied",
-    "blocks": "a part of the text is copied by blocks, or the text is lengthened by bytes that are then overwritten",
+    "lengthen": "the text is lengthened by bytes that are then overwritten, or doubled by a call each",
     "kit": "a function of the kit: its comparison, its validation of short texts, its writer",
     "setup": "what a decoder sets up, of which a short text pays more",
     "faults": "each fault ends a validation, and the next one is set up",
@@ -42,7 +39,7 @@ CALLS = {
     "append": "refill truncate pop remove_first insert_remove push_str drain drain_front drain_back split_off replace_equal "
               "replace_shorter extend_texts",
     "gather": "concat join collect format write",
-    "blocks": "repeat insert_str replace_longer",
+    "lengthen": "repeat insert_str replace_longer",
     "kit": "eq cmp write_wire read_wire from_utf8 from_utf8_lossy from_utf8_buf",
     "setup": "from_utf16 from_utf16_lossy from_utf16le from_utf16be from_utf16le_lossy",
     "faults": "from_faulty_utf8",
@@ -83,7 +80,7 @@ def counted(program, row):
 def reason(call, ratio):
     """Returns the name of the reason of a slow row."""
     if ratio <= ALIKE:
-        return "copies" if ratio <= COPIED else "alike"
+        return "alike"
     return next(name for name, calls in CALLS.items() if call in calls.split())
 
 
@@ -102,7 +99,7 @@ def main():
                         f"  {reason(row[0], ours / better)}\n")
         table.write("\nReasons, as read off the code\n\n")
         for name, told in REASONS.items():
-            table.write(f"{name:8}{told}\n")
+            table.write(f"{name:9}{told}\n")
 
 
 if __name__ == "__main__":
