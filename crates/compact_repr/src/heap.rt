@@ -14,9 +14,6 @@ use compact_text::{slices, vec};
 use std::alloc::{AllocError, Global};
 use std::marker::Model;
 
-/// The greatest capacity to which a buffer grows by a copy.
-const MAX_COPIED: usize = 512;
-
 /// The bytes of the vector are the text. Its spare capacity may hold old bytes.
 ///
 /// Uses only calls that specify the vector's capacity exactly, so no field is needed for it.
@@ -56,7 +53,7 @@ impl HeapBuffer {
     /// # Errors
     ///
     /// Returns `AllocError` if no memory is found.
-    #[inline]
+    #[inline(always)]
     pub fn copy_of(alloc: Global, text: &str, capacity: usize) -> Result<Self, AllocError>
         requires { length text.now ≤ capacity }
         ensures { IfOk result (λ b. b ≡ record { text = text_of text.now; capacity = capacity }) }
@@ -115,17 +112,12 @@ impl HeapBuffer {
     /// # Errors
     ///
     /// Returns `AllocError` if no memory is found; the buffer is then unchanged.
+    #[inline]
     pub fn grow(&mut self, capacity: usize) -> Result<(), AllocError>
         requires { self.old.capacity ≤ capacity }
         ensures ok { OnOk result (self.new ≡ record { text = self.old.text; capacity = capacity }) }
         ensures err { OnErr result (self.new ≡ self.old) }
     {
-        if capacity <= MAX_COPIED {
-            // The system finds a small new buffer sooner than it enlarges one.
-            let alloc = *self.bytes.allocator();
-            *self = HeapBuffer::copy_of(alloc, self.as_str(), capacity)?;
-            return Ok(());
-        }
         self.bytes.reserve_exact(capacity - self.bytes.len())
     }
 

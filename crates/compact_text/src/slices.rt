@@ -18,6 +18,12 @@ use moves::{move_bytes, move_short};
 pub use retain_chars::retain;
 use simd::{load, store};
 
+/// The most bytes that are copied or moved without a loop or a call.
+pub const SHORT: usize = 32;
+
+/// The most bytes that are appended or moved without a call of `memmove`, which takes longer to begin.
+pub const MAX_UNROLLED: usize = 128;
+
 /// Replaces the bytes from `start` to `end` of the first `len` bytes with `source`. Moves the tail once.
 #[inline]
 pub fn splice(slice: &mut [u8], len: usize, start: usize, end: usize, source: &[u8])
@@ -38,8 +44,8 @@ pub fn splice_short(slice: &mut [u8], len: usize, start: usize, end: usize, sour
     requires order { start ≤ end }
     requires within { end ≤ len }
     requires long_enough { len ≤ length slice.old }
-    requires short { len ≤ 32 }
-    requires short_source { length source.now ≤ 32 }
+    requires short { len ≤ SHORT }
+    requires short_source { length source.now ≤ SHORT }
     requires room { len + length source.now ≤ length slice.old + (end - start) }
     ensures { take (len - (end - start) + length source.now) slice.new
         ≡ replace_range (take len slice.old) start end source.now }
@@ -66,7 +72,7 @@ pub fn remove_range_short(slice: &mut [u8], len: usize, start: usize, end: usize
     requires order { start ≤ end }
     requires within { end ≤ len }
     requires long_enough { len ≤ length slice.old }
-    requires short { len ≤ 32 }
+    requires short { len ≤ SHORT }
     ensures { take (len - (end - start)) slice.new
         ≡ replace_range (take len slice.old) start end [] }
 {
@@ -112,7 +118,8 @@ pub fn array_at<const N: usize>(source: &[u8], at: usize) -> [u8; N]
     }
 }
 
-/// The most bytes that are copied through an array, which LLVM removes. The kit's own compiler zeroes it for each copy.
+/// The most bytes that are copied through an array. LLVM removes the array in a function that does little else; the kit's own
+/// compiler zeroes it for each copy. Loops by blocks take this as a parameter, which keeps the number out of their proofs.
 pub const BLOCK: usize = 16384;
 
 /// Copies `source` to `target`, of the same length. A plain loop, which the compiler makes one copy if one of the two is a
@@ -147,20 +154,17 @@ pub fn write(slice: &mut [u8], at: usize, source: &[u8])
     ensures written { slice.new ≡ paste slice.old at source.now (length source.now) }
     ensures after { take (at + length source.now) slice.new ≡ take at slice.old ++ source.now }
 {
-    if source.len() > MAX_SHORT_LEN {
+    if source.len() > SHORT {
         write_long(slice, at, source);
     } else {
         write_short(slice, at, source);
     }
 }
 
-/// The most bytes that `write_short` writes.
-const MAX_SHORT_LEN: usize = 32;
-
 /// Writes `source`, of at most 32 bytes, at `at`: its first and its last 16, 8, 4, 2 or 1 bytes, without a loop.
 #[inline(always)]
 pub fn write_short(slice: &mut [u8], at: usize, source: &[u8])
-    requires short { length source.now ≤ 32 }
+    requires short { length source.now ≤ SHORT }
     requires target { at + length source.now ≤ length slice.old }
     ensures written { slice.new ≡ paste slice.old at source.now (length source.now) }
     ensures after { take (at + length source.now) slice.new ≡ take at slice.old ++ source.now }

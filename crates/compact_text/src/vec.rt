@@ -10,16 +10,10 @@ ghost use Rattle.std.specs.List.{replace_range};
 ghost use Rattle.std.specs.Vec.{vec_len, vec_capacity};
 ghost use Rattle.compact_text.specs.Text.{room_for_char};
 
-use crate::slices::{self, BLOCK, array_at, copy_each};
+use crate::slices::{self, BLOCK, MAX_UNROLLED, SHORT, array_at, copy_each};
 use crate::str_parts::encoded;
 use core::mem::replace_with;
 use std::alloc::{AllocError, Global};
-
-/// The most bytes that are appended inline.
-const SHORT: usize = 32;
-
-/// The most bytes that are appended without a call of `memmove`, which takes longer to begin.
-const MAX_UNROLLED: usize = 128;
 
 /// Appends `source`. A short one is appended inline, without a loop or a call.
 #[inline(always)]
@@ -77,7 +71,7 @@ fn with_front(vec: Vec<u8>, front: ([u8; 4], usize)) -> (Vec<u8>, ())
 /// Appends at most 32 bytes.
 #[inline(always)]
 fn append_short(bytes: &mut Vec<u8>, source: &[u8])
-    requires short { length source.now ≤ 32 }
+    requires short { length source.now ≤ SHORT }
     requires room { vec_len bytes.old + length source.now ≤ vec_capacity bytes.old }
     ensures items { bytes.new.items ≡ bytes.old.items ++ source.now }
     ensures capacity { vec_capacity bytes.new ≡ vec_capacity bytes.old }
@@ -99,7 +93,7 @@ fn append_short(bytes: &mut Vec<u8>, source: &[u8])
 /// Appends more than 32 bytes. Not inlined, so that a short append needs no stack.
 #[inline(never)]
 fn append_long(bytes: &mut Vec<u8>, source: &[u8])
-    requires long { 32 < length source.now }
+    requires long { SHORT < length source.now }
     requires room { vec_len bytes.old + length source.now ≤ vec_capacity bytes.old }
     ensures items { bytes.new.items ≡ bytes.old.items ++ source.now }
     ensures capacity { vec_capacity bytes.new ≡ vec_capacity bytes.old }
@@ -113,11 +107,11 @@ fn append_long(bytes: &mut Vec<u8>, source: &[u8])
     }
 }
 
-/// Appends 33 to 128 bytes as both ends.
+/// Appends more than 32 bytes, up to 128, as both ends.
 #[inline(always)]
 fn append_up_to_128(bytes: &mut Vec<u8>, source: &[u8])
-    requires long { 32 < length source.now }
-    requires most { length source.now ≤ 128 }
+    requires long { SHORT < length source.now }
+    requires most { length source.now ≤ MAX_UNROLLED }
     requires room { vec_len bytes.old + length source.now ≤ vec_capacity bytes.old }
     ensures items { bytes.new.items ≡ bytes.old.items ++ source.now }
     ensures capacity { vec_capacity bytes.new ≡ vec_capacity bytes.old }
@@ -141,12 +135,12 @@ fn append_block(bytes: &mut Vec<u8>, source: &[u8])
     replace_with(bytes, source, with_block);
 }
 
-/// Copies `source` into a new vector of `capacity` bytes, at least its length.
+/// Copies `source` into a new vector of `capacity` bytes, at least its length. Inline this only where `with_block` may be.
 ///
 /// # Errors
 ///
 /// Returns `AllocError` if no memory is found.
-#[inline(never)]
+#[inline(always)]
 pub fn copied(alloc: Global, source: &[u8], capacity: usize) -> Result<Vec<u8>, AllocError>
     requires { length source.now ≤ capacity }
     ensures items { IfOk result (λ v. v.items ≡ source.now) }

@@ -179,6 +179,19 @@ fn with_exact_capacity(alloc: Global, bytes: &[u8]) -> Result<CompactString, Res
     if bytes.len() <= INLINE_CAPACITY {
         return CompactString::from_utf8_unchecked(alloc, bytes);
     }
+    long_with_exact_capacity(alloc, bytes)
+}
+
+/// `with_exact_capacity` of more than 24 bytes. Not inlined, so that the copy is one `memmove`.
+#[inline(never)]
+#[tactic(auto, using(crate::proofs::WireLemmas::read_text_facts))]
+fn long_with_exact_capacity(alloc: Global, bytes: &[u8]) -> Result<CompactString, ReserveError>
+    requires utf8 { IsUtf8 bytes.now }
+    requires long { INLINE_CAPACITY < length bytes.now }
+    ensures bytes { IfOk result (λ v. utf8 v.text ≡ bytes.now) }
+    ensures text { IfOk result (λ v. IsText v.text) }
+    ensures place { IfOk result IsPlacedAsRead }
+{
     let copy = vec::copied(alloc, bytes, bytes.len())?;
     let text = unsafe { String::from_utf8_unchecked(copy) };
     Ok(CompactString::from(text))

@@ -51,7 +51,8 @@ impl<P: Policy> Repr<P> {
         }
     }
 
-    /// `try_push` of an ASCII character, which a loop over such text tests for before the place. In the same order.
+    /// `try_push` of an ASCII character, which a loop over such text tests for before the place. The places are in the order
+    /// of `try_push`.
     #[inline(always)]
     fn try_push_ascii(&mut self, byte: u8) -> bool
         requires { byte < 128 }

@@ -39,8 +39,8 @@ impl<P: Policy> Repr<P> {
         Ok(Self::from_buffer(alloc, Buffer::Inline([], inline)))
     }
 
-    /// Copies a `text` of more than 24 bytes.
-    #[inline]
+    /// Copies a `text` of more than 24 bytes. Not inlined, so that the copy is one `memmove`.
+    #[inline(never)]
     fn copy_to_heap(alloc: Global, text: &str) -> Result<HeapBuffer, AllocError>
         requires { INLINE_CAPACITY < length text.now }
         ensures text { IfOk result (λ h. h.text ≡ text_of text.now) }

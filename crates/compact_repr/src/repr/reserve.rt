@@ -8,6 +8,9 @@ use crate::inline::{INLINE_CAPACITY, InlineBuffer};
 use crate::repr::{Buffer, Repr};
 use std::alloc::{AllocError, Global};
 
+/// The greatest capacity to which a buffer grows by a copy.
+const MAX_COPIED: usize = 512;
+
 impl<P: Policy> Repr<P> {
     /// Reserves room for `additional` more bytes.
     ///
@@ -134,7 +137,8 @@ impl<P: Policy> Repr<P> {
         self.buffer = Buffer::Inline([], InlineBuffer::new(self.as_str()));
     }
 
-    /// Moves the text into a heap buffer of `capacity` bytes, at least its length.
+    /// Moves the text into a heap buffer of `capacity` bytes, at least its length. A small buffer is replaced: the system
+    /// finds a new one sooner than it enlarges the old one.
     ///
     /// # Errors
     ///
@@ -147,7 +151,9 @@ impl<P: Policy> Repr<P> {
         ensures ok { OnOk result (self.new ≡ placed_text self.old.text (heap_placement capacity)) }
         ensures err { OnErr result (self.new ≡ self.old) }
     {
-        if let Buffer::Heap(heap) = &mut self.buffer {
+        if capacity > MAX_COPIED
+            && let Buffer::Heap(heap) = &mut self.buffer
+        {
             heap.grow(capacity)?;
             return Ok(());
         }

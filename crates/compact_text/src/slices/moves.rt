@@ -6,7 +6,7 @@ ghost use Rattle.std.specs.Prelude.{◌≡◌, ◌+◌, ◌-◌, ◌≤◌, ◌<
 ghost use lib.Seq.{paste};
 
 use super::simd::{load, store};
-use super::{BLOCK, copy_each};
+use super::{BLOCK, MAX_UNROLLED, SHORT, copy_each};
 
 /// Moves `count` bytes from `from` to `to`, which may overlap.
 #[inline(always)]
@@ -19,7 +19,7 @@ pub fn move_bytes(slice: &mut [u8], from: usize, to: usize, count: usize)
     if from == to {
         return;
     }
-    if count <= 128 {
+    if count <= MAX_UNROLLED {
         move_up_to_128(slice, from, to, count);
     } else {
         move_long(slice, from, to, count);
@@ -93,7 +93,7 @@ fn move_blocks_down<const N: usize>(slice: &mut [u8], from: usize, to: usize, co
 /// Moves at most 128 bytes.
 #[inline(always)]
 fn move_up_to_128(slice: &mut [u8], from: usize, to: usize, count: usize)
-    requires most { count ≤ 128 }
+    requires most { count ≤ MAX_UNROLLED }
     requires source { from + count ≤ length slice.old }
     requires target { to + count ≤ length slice.old }
     ensures { slice.new ≡ paste slice.old to (drop from slice.old) count }
@@ -110,7 +110,7 @@ fn move_up_to_128(slice: &mut [u8], from: usize, to: usize, count: usize)
 /// Moves at most 32 bytes: their first and their last 16, 8, 4, 2 or 1, without a loop or a call.
 #[inline(always)]
 pub fn move_short(slice: &mut [u8], from: usize, to: usize, count: usize)
-    requires short { count ≤ 32 }
+    requires short { count ≤ SHORT }
     requires source { from + count ≤ length slice.old }
     requires target { to + count ≤ length slice.old }
     ensures { slice.new ≡ paste slice.old to (drop from slice.old) count }
