@@ -5,7 +5,8 @@ pub mod ByteOrder
 pub mod PackedArrays
 pub mod PackedTexts
 pub mod PackedEnds
-pub mod PackedEdits
+pub mod PackedCuts
+pub mod PackedCase
 pub mod PackedFacts
 pub mod PackedOrder
 pub mod Examples

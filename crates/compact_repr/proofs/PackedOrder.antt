@@ -10,7 +10,7 @@ use Rattle.compact_repr.specs.Packed.{IsPackedFor, packed_len, packed_text}
 use Rattle.compact_text.proofs.Texts.{utf8-text_of}
 use Rattle.compact_repr.proofs.ByteOrder.{utf8-order, first-decides}
 use Rattle.compact_repr.proofs.PackedTexts.{len-full, len-high, packed-utf8}
-use Rattle.compact_repr.proofs.PackedEdits.{len-fits}
+use Rattle.compact_repr.proofs.PackedCuts.{len-fits}
 
 -- a text that is not empty begins with the first packed byte
 first_packed : {t : List ℕ} (bytes : List ℕ) → length bytes ≡ 24 → packed_text bytes ≡ t

@@ -207,13 +207,11 @@ impl InlineBuffer {
         write_len(&mut self.bytes, 0);
     }
 
-    /// Converts ASCII characters to upper or lower case.
+    /// Converts ASCII characters to upper or lower case, among all 24 bytes: a length is not ASCII.
     pub fn convert_case(&mut self, case: Case)
         ensures { self.new ≡ text_in_case case self.old }
     {
-        let len = decode_len(&self.bytes);
-        slices::convert_case(&mut self.bytes, len, case);
-        write_len(&mut self.bytes, len);
+        slices::convert_case(&mut self.bytes, INLINE_CAPACITY, case);
     }
 
     /// Keeps the characters for which `keep` returns `true`; calls it once for each, in order.

@@ -101,16 +101,21 @@ ascii : (case : Case) (b : ℕ) → b < 128 → in_case case b < 128
 ascii Lower = lowercase_ascii
 ascii Upper = uppercase_ascii
 
-high : (case : Case) (b : ℕ) → 128 ≤ b → in_case case b ≡ b
-high Lower = lowercase_high
-high Upper = uppercase_high
+pub high-in_case : (case : Case) (b : ℕ) → 128 ≤ b → in_case case b ≡ b
+high-in_case Lower = lowercase_high
+high-in_case Upper = uppercase_high
+
+-- a byte below 192, as the last of a text is, remains so
+pub low-in_case : (case : Case) (b : ℕ) → b < 192 → in_case case b < 192
+low-in_case case b low = ⊎_elim (λ h. let k = ascii case b h in omega (arith, k)) (λ h. omega (arith, low, high-in_case case b h))
+    (cases_lt b 128)
 
 pub utf8-in_case : (case : Case) (bytes : List ℕ) → IsUtf8 bytes → IsUtf8 (map (in_case case) bytes)
-utf8-in_case case bytes u = utf8-changed (in_case case) (ascii case) (high case) bytes u
+utf8-in_case case bytes u = utf8-changed (in_case case) (ascii case) (high-in_case case) bytes u
 
 pub text_of-in_case : {t : List ℕ} (case : Case) (bytes : List ℕ) → text_of bytes ≡ t → IsUtf8 bytes
     → text_of (map (in_case case) bytes) ≡ text_in_case case t
-text_of-in_case case bytes e u = text_of-changed (in_case case) (ascii case) (high case) bytes e u
+text_of-in_case case bytes e u = text_of-changed (in_case case) (ascii case) (high-in_case case) bytes e u
 
 pub size-lowercase : (t : List ℕ) → size (ascii_lowercase t) ≡ size t
 size-lowercase t = size-changed to_ascii_lowercase lowercase_ascii lowercase_high t

@@ -1,4 +1,4 @@
-use Rattle.compact_repr.proofs.PackedEdits.{utf8-seen}
+use Rattle.compact_repr.proofs.PackedCuts.{utf8-seen}
 use Rattle.compact_repr.proofs.inline.InlineBuffer.as_str.Goals as goal
 
 pub from_utf8_unchecked-requires : goal.from_utf8_unchecked-requires

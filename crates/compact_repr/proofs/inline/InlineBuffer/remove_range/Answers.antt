@@ -1,7 +1,7 @@
 use Rattle.std.proofs.Common.{◌∙◌}
 use Rattle.compact_text.proofs.CutLemmas.{text_of-removed, utf8-removed}
 use Rattle.compact_repr.proofs.PackedTexts.{packed-text}
-use Rattle.compact_repr.proofs.PackedEdits.{utf8-seen}
+use Rattle.compact_repr.proofs.PackedCuts.{utf8-seen}
 use Rattle.compact_repr.proofs.inline.InlineBuffer.remove_range.Goals as goal
 
 pub write_len-requires-clause-text : goal.write_len-requires-clause-text

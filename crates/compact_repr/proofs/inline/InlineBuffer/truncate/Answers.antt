@@ -1,6 +1,6 @@
 use Rattle.std.proofs.Common.{◌∙◌}
 use Rattle.compact_repr.proofs.PackedTexts.{packed-text}
-use Rattle.compact_repr.proofs.PackedEdits.{utf8-cut, text_of-cut}
+use Rattle.compact_repr.proofs.PackedCuts.{utf8-cut, text_of-cut}
 use Rattle.compact_repr.proofs.inline.InlineBuffer.truncate.Goals as goal
 
 pub write_len-requires-clause-text : goal.write_len-requires-clause-text

@@ -1,7 +1,7 @@
 use Rattle.std.proofs.Common.{◌∙◌}
 use Rattle.compact_text.proofs.RetainLemmas.{utf8-pushed, text_of-pushed}
 use Rattle.compact_repr.proofs.PackedTexts.{packed-text, packed-again}
-use Rattle.compact_repr.proofs.PackedEdits.{utf8-seen}
+use Rattle.compact_repr.proofs.PackedCuts.{utf8-seen}
 use Rattle.compact_repr.proofs.inline.InlineBuffer.try_push.Goals as goal
 
 pub write_len-requires-clause-text : goal.write_len-requires-clause-text

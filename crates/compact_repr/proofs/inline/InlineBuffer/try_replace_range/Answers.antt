@@ -2,7 +2,7 @@
 use Rattle.std.proofs.Common.{◌∙◌}
 use Rattle.compact_text.proofs.CutLemmas.{text_of-replaced, utf8-replaced}
 use Rattle.compact_repr.proofs.PackedTexts.{packed-text}
-use Rattle.compact_repr.proofs.PackedEdits.{utf8-seen}
+use Rattle.compact_repr.proofs.PackedCuts.{utf8-seen}
 use Rattle.compact_repr.proofs.inline.InlineBuffer.try_replace_range.Goals as goal
 
 pub write_len-requires-clause-text : goal.write_len-requires-clause-text

@@ -1,4 +1,4 @@
--- Edits of packed texts: the facts of `Cuts` and `Ascii`, for the first bytes of a packed array.
+-- Packed texts cut at a boundary: the length, and the bytes before a boundary as UTF-8 and as a text.
 use Rattle.std.proofs.Common.{◌≡◌, ℕ, ◌≤◌, List, take, ap, sym, ◌∙◌, subst, arith}
 use Rattle.std.specs.Str.{IsUtf8}
 use Rattle.std.proofs.lemmas.List.{take-take}
