@@ -277,6 +277,7 @@ impl HeapBuffer {
     }
 
     /// Converts ASCII characters to upper or lower case. Keeps the capacity.
+    #[inline]
     pub fn convert_case(&mut self, case: Case)
         ensures { self.new
             ≡ record { text = text_in_case case self.old.text; capacity = self.old.capacity } }

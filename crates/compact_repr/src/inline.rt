@@ -208,6 +208,7 @@ impl InlineBuffer {
     }
 
     /// Converts ASCII characters to upper or lower case, among all 24 bytes: a length is not ASCII.
+    #[inline]
     pub fn convert_case(&mut self, case: Case)
         ensures { self.new ≡ text_in_case case self.old }
     {

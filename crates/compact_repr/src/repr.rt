@@ -71,8 +71,8 @@ impl<P: Policy> Repr<P> {
         ensures sound { IsSound self.now }
     {
         match &self.buffer {
-            Buffer::Inline(_, inline) => inline.len(),
             Buffer::Heap(heap) => heap.len(),
+            Buffer::Inline(_, inline) => inline.len(),
             Buffer::Static(text) => text.len(),
         }
     }

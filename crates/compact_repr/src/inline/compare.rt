@@ -11,18 +11,17 @@ use std::cmp::Ordering;
 const EMPTY: u8 = 192;
 
 impl InlineBuffer {
-    /// Returns `true` if the texts are equal. If all three words are equal, so are the texts; if the last bytes differ,
-    /// the texts do. Otherwise compares the texts, since padding is unspecified.
+    /// Returns `true` if the texts are equal. If the last bytes differ, so do the texts; if all three words are equal, so are
+    /// they. Otherwise compares the texts, since padding is unspecified.
     #[inline]
     #[tactic(auto, using(crate::proofs::ByteOrder::order_facts))]
     pub fn same_text(&self, other: &Self) -> bool
         ensures { result ≡ pointwise nat_eq self.now other.now }
     {
-        let same = same_array(&self.bytes, &other.bytes);
-        if same | (last_byte(&self.bytes) != last_byte(&other.bytes)) {
-            return same;
+        if last_byte(&self.bytes) != last_byte(&other.bytes) {
+            return false;
         }
-        self.as_str() == other.as_str()
+        same_array(&self.bytes, &other.bytes) || self.as_str() == other.as_str()
     }
 
     /// Compares the texts, by their first bytes alone if these differ and neither text is empty. Not inlined, so that

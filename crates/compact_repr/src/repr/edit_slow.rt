@@ -1,6 +1,7 @@
 //! Edits that may have to allocate: to reserve room, or to make the value owned.
 ghost use Rattle.std.specs.Prelude.{◌≡◌, ◌+◌, ◌-◌, ◌^◌, ◌<◌, ◌≤◌, [], ◌∷◌, ◌++◌, length, IfOk, OnOk, OnErr, false};
 ghost use Rattle.std.specs.Char.{len_utf8};
+ghost use Rattle.compact_text.specs.Text.{room_for_char};
 ghost use Rattle.compact_repr.specs.Words.{size, text_of, IsBoundary, IsCharAt, substring, replaced_text, fits_in_place, PlacedFor, AllocatesFor, owned, room, room_to_append, room_to_replace};
 
 use crate::growth::Policy;
@@ -34,6 +35,39 @@ impl<P: Policy> Repr<P> {
             unreachable!();
         }
         Ok(())
+    }
+
+    /// Appends a character that `try_push` did not append. One that is not ASCII may still fit. Not inlined and cold, so that
+    /// a loop of appends stays short.
+    ///
+    /// # Errors
+    ///
+    /// Returns `AllocError` if a new buffer cannot be allocated.
+    #[cold]
+    #[inline(never)]
+    #[tactic(auto, using(crate::proofs::PlacementLemmas::placed_facts))]
+    pub fn push_slow(&mut self, character: char) -> Result<(), AllocError>
+        requires { fits_in_place self.old (room_for_char character) ≡ false }
+        ensures text { OnOk result (self.new.text ≡ self.old.text ++ character ∷ []) }
+        ensures place { OnOk result
+            (PlacedFor P.growth self.old self.new (room_to_append (len_utf8 character))) }
+        ensures allocates { OnErr result
+            (AllocatesFor self.old (room_to_append (len_utf8 character))) }
+        ensures err { OnErr result (self.new ≡ self.old) }
+    {
+        if character.is_ascii() {
+            self.make_room(1)?;
+            if !self.try_push(character) {
+                unreachable!();
+            }
+            return Ok(());
+        }
+        let mut bytes = [0; 4];
+        let text = encode_char(character, &mut bytes);
+        if self.try_push_str(text) {
+            return Ok(());
+        }
+        self.push_str_slow(text)
     }
 
     /// Inserts `text`, which does not fit in place, at byte `index`, a boundary. A static value becomes owned even if

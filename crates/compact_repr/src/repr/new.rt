@@ -149,8 +149,7 @@ impl<P: Policy> Repr<P> {
         }
     }
 
-    /// Copies a `text` of at most 24 bytes inline. Not inlined: a text so short is rarely on the heap.
-    #[cold]
+    /// Copies a `text` of at most 24 bytes inline. Not inlined, so that `try_clone` stays short.
     #[inline(never)]
     fn copy_inline(alloc: Global, text: &str) -> Self
         requires { length text.now ≤ INLINE_CAPACITY }

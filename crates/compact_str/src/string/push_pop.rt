@@ -7,7 +7,6 @@ use crate::error::ReserveError;
 use crate::refused::Refused;
 use crate::string::PolicyString;
 use compact_repr::Policy;
-use compact_text::str_parts::encode_char;
 
 impl<P: Policy> PolicyString<P> {
     /// Appends `text`. Unless it is empty, reserves as `reserve` does, so a static string is copied and becomes owned. Never
@@ -79,28 +78,7 @@ impl<P: Policy> PolicyString<P> {
         if self.repr.try_push(character) {
             return Ok(());
         }
-        self.push_slow(character)
-    }
-
-    /// `push` of a character that `try_push` did not append. Not inlined and cold, so that a loop of appends stays short.
-    #[cold]
-    #[inline(never)]
-    #[tactic(auto, using(compact_repr::proofs::PlacementLemmas::placed_facts))]
-    fn push_slow(&mut self, character: char) -> Result<(), ReserveError>
-        ensures text { OnOk result (self.new.text ≡ self.old.text ++ character ∷ []) }
-        ensures place { OnOk result
-            (PlacedFor P.growth self.old self.new (room_to_append (len_utf8 character))) }
-        ensures allocates { OnErr result
-            (AllocatesFor self.old (room_to_append (len_utf8 character))) }
-        ensures err { OnErr result (self.new ≡ self.old) }
-    {
-        let mut bytes = [0; 4];
-        let text = encode_char(character, &mut bytes);
-        self.repr.reserve(text.len())?;
-        if !self.repr.try_push_str(text) {
-            unreachable!();
-        }
-        Ok(())
+        Ok(self.repr.push_slow(character)?)
     }
 
     /// Appends `text` and returns the string, like Rust's `+`.
