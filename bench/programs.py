@@ -9,6 +9,7 @@ peak memory: medians of 7 rounds, and the ratios of CompactString to String.
 """
 
 import hashlib
+import multiprocessing
 import os
 import random
 import shutil
@@ -65,7 +66,7 @@ def run(program, name, given, written):
 
 def digest(path):
     with open(path, "rb") as file:
-        return hashlib.sha256(file.read()).hexdigest()
+        return hashlib.file_digest(file, "sha256").hexdigest()
 
 
 def main():
@@ -73,7 +74,10 @@ def main():
     with tempfile.TemporaryDirectory() as folder:
         programs = [build(CRATE), build(over_string(folder))]
         given, written = os.path.join(folder, "given"), os.path.join(folder, "written")
-        write_input(given)
+        # In a process of its own, since the peak of a program is at least that of the process that starts it.
+        writer = multiprocessing.Process(target=write_input, args=(given,))
+        writer.start()
+        writer.join()
         print("program | CompactString s | String s | to String | CompactString MB | String MB | to String")
         print("---|---:|---:|---:|---:|---:|---:")
         for name in ["keep", "push", "write"]:
