@@ -2,7 +2,7 @@
 use Rattle.std.proofs.Common.{◌≡◌, ℕ, ◌-◌, ◌<◌, ◌≤◌, List, length, take, get_or, map, refl, ap, sym, ◌∙◌, subst, arith, ⊎_elim}
 use Rattle.std.specs.Str.{IsUtf8}
 use Rattle.std.proofs.lemmas.Bool.{cases_lt}
-use Rattle.std.proofs.lemmas.List.{get_or-map, length-map, take-map, take_all}
+use Rattle.std.proofs.lemmas.List.{get_or-map, length-map, take-map}
 use Rattle.compact_text.specs.Text.{text_of}
 use Rattle.compact_text.specs.Case.{in_case, text_in_case}
 use Rattle.compact_text.specs.declared.slices.ascii_case.Case.{Case}
@@ -32,31 +32,16 @@ front : (case : Case) (bytes : List ℕ) → length bytes ≡ 24
 front case bytes all = ap (λ (n : ℕ). take n (map (in_case case) bytes)) (same_len case bytes all)
     ∙ take-map (in_case case) (packed_len bytes) bytes
 
-whole : (case : Case) (bytes now : List ℕ) → length bytes ≡ 24 → length now ≡ 24
-    → take 24 now ≡ map (in_case case) (take 24 bytes)
-    → now ≡ map (in_case case) bytes
-whole case bytes now all same e = sym (take_all 24 now (omega (arith, same))) ∙ e
-    ∙ ap (map (in_case case)) (take_all 24 bytes (omega (arith, all)))
-
-packs-in_case : (case : Case) (bytes : List ℕ) → length bytes ≡ 24 → IsPackedFor bytes (packed_text bytes)
+pub packed-in_case : (case : Case) (bytes : List ℕ) → length bytes ≡ 24 → IsPackedFor bytes (packed_text bytes)
     → IsPackedFor (map (in_case case) bytes) (packed_text (map (in_case case) bytes))
-packs-in_case case bytes all p =
+packed-in_case case bytes all p =
     let most = len-fits bytes refl p in
     packs-read (map (in_case case) bytes) (length-map bytes (in_case case) ∙ all)
     (omega (arith, same_len case bytes all, most))
     (subst IsUtf8 (sym (front case bytes all)) (utf8-in_case case _ (packed-utf8 bytes _ p)))
 
-pub packed-in_case : (case : Case) (bytes now : List ℕ) → take 24 now ≡ map (in_case case) (take 24 bytes)
-    → IsPackedFor bytes (packed_text bytes) → length bytes ≡ 24 → length now ≡ 24
-    → IsPackedFor now (packed_text now)
-packed-in_case case bytes now e p all same =
-    subst (λ (b : List ℕ). IsPackedFor b (packed_text b)) (sym (whole case bytes now all same e))
-    (packs-in_case case bytes all p)
-
-pub text-in_case : {t : List ℕ} (case : Case) (bytes now : List ℕ) → take 24 now ≡ map (in_case case) (take 24 bytes)
-    → packed_text bytes ≡ t → IsPackedFor bytes (packed_text bytes) → length bytes ≡ 24 → length now ≡ 24
-    → packed_text now ≡ text_in_case case t
-text-in_case case bytes now e text p all same =
-    ap packed_text (whole case bytes now all same e)
-    ∙ ap text_of (front case bytes all)
-    ∙ text_of-in_case case (take (packed_len bytes) bytes) text (packed-utf8 bytes _ p)
+pub text-in_case : {t : List ℕ} (case : Case) (bytes : List ℕ) → length bytes ≡ 24 → packed_text bytes ≡ t
+    → IsPackedFor bytes (packed_text bytes)
+    → packed_text (map (in_case case) bytes) ≡ text_in_case case t
+text-in_case case bytes all e p = ap text_of (front case bytes all)
+    ∙ text_of-in_case case (take (packed_len bytes) bytes) e (packed-utf8 bytes _ p)

@@ -282,8 +282,7 @@ impl HeapBuffer {
         ensures { self.new
             ≡ record { text = text_in_case case self.old.text; capacity = self.old.capacity } }
     {
-        let len = self.bytes.len();
-        slices::convert_case(self.bytes.as_mut_slice(), len, case);
+        slices::convert_case(self.bytes.as_mut_slice(), case);
     }
 
     /// Keeps the characters for which `keep` returns `true`; calls it once for each, in order. Keeps the capacity.

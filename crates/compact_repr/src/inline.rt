@@ -212,7 +212,7 @@ impl InlineBuffer {
     pub fn convert_case(&mut self, case: Case)
         ensures { self.new ≡ text_in_case case self.old }
     {
-        slices::convert_case(&mut self.bytes, INLINE_CAPACITY, case);
+        slices::convert_case(&mut self.bytes, case);
     }
 
     /// Keeps the characters for which `keep` returns `true`; calls it once for each, in order.
