@@ -207,8 +207,9 @@ impl InlineBuffer {
         write_len(&mut self.bytes, 0);
     }
 
-    /// Converts ASCII characters to upper or lower case, among all 24 bytes: a length is not ASCII.
-    #[inline]
+    /// Converts ASCII characters to upper or lower case, among all 24 bytes: a length is not ASCII. Not inlined: on a value
+    /// in registers the loop would be unrolled, byte by byte.
+    #[inline(never)]
     pub fn convert_case(&mut self, case: Case)
         ensures { self.new ≡ text_in_case case self.old }
     {

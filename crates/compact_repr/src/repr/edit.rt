@@ -242,9 +242,8 @@ impl<P: Policy> Repr<P> {
         }
     }
 
-    /// Converts ASCII characters of an owned value to upper or lower case. Keeps the place and the capacity. Always inlined,
-    /// so that each case has a loop of its own.
-    #[inline(always)]
+    /// Converts ASCII characters of an owned value to upper or lower case. Keeps the place and the capacity.
+    #[inline]
     pub fn convert_case(&mut self, case: Case)
         requires { IsOwned self.old }
         ensures { self.new ≡ placed_text (text_in_case case self.old.text) self.old.placement }
