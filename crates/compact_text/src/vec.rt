@@ -1,7 +1,7 @@
 //! Appends within a vector's reserved capacity.
 //!
 //! The functions `with_..` take the vector and return it, for `replace_with`: a vector behind a reference would be written
-//! for each byte.
+//! for each byte. Their `()` is the result that `replace_with` passes on.
 #![tactic(auto, using(crate::proofs::TextFacts::text_facts, crate::proofs::Facts::vec_facts))]
 
 ghost use Rattle.std.specs.Prelude.{◌≡◌, ◌+◌, ◌-◌, ◌<◌, ◌≤◌, [], ◌∷◌, ◌++◌, length, take, drop, replicate, IsTrue, ◌↔◌, false, IfSome, IfOk, None};
