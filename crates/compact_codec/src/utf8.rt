@@ -24,6 +24,9 @@ pub struct Utf8Error {
 /// The block size. From this length on, whole blocks are validated faster than bytes in order.
 const BLOCK_LEN: usize = 64;
 
+/// The most bytes that are validated at first, so that an error near the start costs no more.
+const FIRST_WINDOW_LEN: usize = 512;
+
 /// The most bytes that are validated at a time.
 const MAX_WINDOW_LEN: usize = 8192;
 
@@ -152,30 +155,17 @@ fn is_ascii_block(block: u8x64) -> bool
     block.simd_ge(u8x64::splat(0x80)).to_bitmask() == 0
 }
 
-/// `validate`, given that the bytes before `at` are valid. Validates large windows, and the first invalid one again in
-/// small windows.
+/// `validate`, given that the bytes before `at` are valid.
 fn validate_long(bytes: &[u8], at: usize) -> Result<&str, Utf8Error>
     requires within { at ≤ length bytes.now }
     requires text { IsUtf8 (take at bytes.now) }
     ensures { Validates bytes.now result }
 {
-    validate_in_windows(
-        bytes,
-        valid_len_in_windows(bytes, at, MAX_WINDOW_LEN),
-        BLOCK_LEN,
-    )
-}
-
-/// `validate`, given that the bytes before `at` are valid. Validates windows of `width` bytes, each twice as wide as
-/// the one before, and all in order from the first invalid one on, so it validates only a few times the bytes before the
-/// error.
-fn validate_in_windows(bytes: &[u8], at: usize, width: usize) -> Result<&str, Utf8Error>
-    requires within { at ≤ length bytes.now }
-    requires text { IsUtf8 (take at bytes.now) }
-    requires wide { (64 ≤ width) × (width ≤ 8192) }
-    ensures { Validates bytes.now result }
-{
-    validate_from(bytes, valid_len_in_windows(bytes, at, width))
+    let at = valid_len_in_windows(bytes, at, FIRST_WINDOW_LEN);
+    if at < bytes.len() {
+        return validate_by_guess(bytes, at);
+    }
+    Ok(unsafe { std::str::from_utf8_unchecked(bytes) })
 }
 
 /// Returns the length of a valid prefix, in whole windows, given that the bytes before `from` are valid. The first
@@ -224,27 +214,34 @@ fn char_start_before(bytes: &[u8], at: usize) -> usize
     if bytes[at] & 0xC0 == 0x80 { at - 1 } else { at }
 }
 
-/// `validate`, given that an error is likely to come soon, or even at once. Validates windows only if the block after
-/// the first ASCII bytes looks valid.
+/// `validate`, given that an error is likely to come soon, or even at once.
 #[inline]
 fn validate_to_error(bytes: &[u8]) -> Result<&str, Utf8Error>
     ensures { Validates bytes.now result }
 {
-    if !bytes.is_empty() && begins_no_character(bytes[0]) {
-        return Err(Utf8Error {
-            valid_up_to: 0,
-            error_len: Some(1),
-        });
+    if bytes.len() < BLOCK_LEN || begins_no_character(bytes[0]) {
+        return validate_first(bytes);
     }
-    if bytes.len() < BLOCK_LEN {
-        return validate_in_order(bytes);
+    validate_by_guess(bytes, ascii_len(bytes))
+}
+
+/// `validate`, given that the bytes before `from` are valid, and that an error is likely to come soon. Validates the next
+/// block up to where an error is likely. If it seems to have none, validates windows, each twice as wide as the one before,
+/// and all in order from the first invalid one on: only a few times the bytes before the error.
+fn validate_by_guess(bytes: &[u8], from: usize) -> Result<&str, Utf8Error>
+    requires within { from ≤ length bytes.now }
+    requires text { IsUtf8 (take from bytes.now) }
+    ensures { Validates bytes.now result }
+{
+    if bytes.len() - from < BLOCK_LEN || begins_no_character(bytes[from]) {
+        return validate_from(bytes, from);
     }
-    let letters = ascii_len(bytes);
-    let at = valid_len_by_guess(bytes, letters);
-    if at - letters < BLOCK_LEN - 4 {
-        return validate_from(bytes, at);
+    let (len, is_whole) = likely_valid_len(&bytes[from..from + BLOCK_LEN]);
+    let at = valid_len_by_guess(bytes, from, from + len);
+    if is_whole && from < at {
+        return validate_from(bytes, valid_len_in_windows(bytes, at, BLOCK_LEN));
     }
-    validate_in_windows(bytes, at, BLOCK_LEN)
+    validate_from(bytes, at)
 }
 
 /// Returns `true` for a continuation byte, and for a byte that is in no text.
@@ -266,19 +263,14 @@ fn ascii_len(bytes: &[u8]) -> usize
     others.to_bitmask().trailing_zeros() as usize
 }
 
-/// Returns the length of a valid prefix, given that the bytes before `from` are valid: to the end of a correct guess at
-/// the next `BLOCK_LEN` bytes, or else to `from`.
-fn valid_len_by_guess(bytes: &[u8], from: usize) -> usize
-    requires within { from ≤ length bytes.now }
+/// Returns `end` if the bytes from `from` to there are valid, else `from`, given that the bytes before `from` are valid.
+fn valid_len_by_guess(bytes: &[u8], from: usize, end: usize) -> usize
+    requires order { from ≤ end }
+    requires within { end ≤ length bytes.now }
     requires text { IsUtf8 (take from bytes.now) }
-    ensures onward { from ≤ result }
     ensures within { result ≤ length bytes.now }
     ensures text { IsUtf8 (take result bytes.now) }
 {
-    if bytes.len() - from < BLOCK_LEN {
-        return from;
-    }
-    let end = from + likely_valid_len(&bytes[from..from + BLOCK_LEN]);
     let guessed = &bytes[from..end];
     if !guessed.is_empty() && simdutf8::is_utf8(guessed) {
         end
@@ -287,11 +279,11 @@ fn valid_len_by_guess(bytes: &[u8], from: usize) -> usize
     }
 }
 
-/// Guesses the length of a valid prefix, up to the last character: compares continuation bytes with those that the lead
-/// bytes call for, all in one step. A wrong guess costs only time.
-fn likely_valid_len(bytes: &[u8]) -> usize
+/// Guesses the length of a valid prefix, up to the last character, and whether the block is valid as far as it goes: compares
+/// continuation bytes with those that the lead bytes call for, all in one step. A wrong guess costs only time.
+fn likely_valid_len(bytes: &[u8]) -> (usize, bool)
     requires { length bytes.now ≡ 64 }
-    ensures { result ≤ 64 }
+    ensures { result.0 ≤ 64 }
 {
     let block = u8x64::from_slice(bytes);
     let high = block.simd_ge(u8x64::splat(0x80)).to_bitmask();
@@ -300,11 +292,12 @@ fn likely_valid_len(bytes: &[u8]) -> usize
     let widest = block.simd_ge(u8x64::splat(0xF0)).to_bitmask();
     let due = leads.wrapping_shl(1) | wide.wrapping_shl(2) | widest.wrapping_shl(3);
     let end = (high ^ leads ^ due).trailing_zeros() as usize;
-    if end == 0 || end < BLOCK_LEN && bytes[end] & 0xC0 == 0x80 {
-        return end;
+    let is_whole = end == BLOCK_LEN;
+    if end == 0 || !is_whole && bytes[end] & 0xC0 == 0x80 {
+        return (end, false);
     }
     let lead = lead_at(bytes, lead_at(bytes, end - 1));
-    lead_at(bytes, lead)
+    (lead_at(bytes, lead), is_whole)
 }
 
 /// Steps back one byte if there is one and no character can begin at this one.
@@ -325,7 +318,7 @@ fn validate_from(bytes: &[u8], at: usize) -> Result<&str, Utf8Error>
     requires text { IsUtf8 (take at bytes.now) }
     ensures { Validates bytes.now result }
 {
-    match validate_in_order(&bytes[at..]) {
+    match validate_first(&bytes[at..]) {
         Ok(_) => Ok(unsafe { std::str::from_utf8_unchecked(bytes) }),
         Err(error) => Err(Utf8Error {
             valid_up_to: at + error.valid_up_to,
@@ -334,7 +327,21 @@ fn validate_from(bytes: &[u8], at: usize) -> Result<&str, Utf8Error>
     }
 }
 
-/// The same, from the first byte to the error and no further.
+/// `validate_in_order`, which takes longer if the first byte is an error.
+#[inline]
+fn validate_first(bytes: &[u8]) -> Result<&str, Utf8Error>
+    ensures { Validates bytes.now result }
+{
+    if !bytes.is_empty() && begins_no_character(bytes[0]) {
+        return Err(Utf8Error {
+            valid_up_to: 0,
+            error_len: Some(1),
+        });
+    }
+    validate_in_order(bytes)
+}
+
+/// `validate`, from the first byte to the error and no further.
 fn validate_in_order(bytes: &[u8]) -> Result<&str, Utf8Error>
     ensures { Validates bytes.now result }
 {

@@ -62,6 +62,16 @@ impl HeapBuffer {
         Ok(HeapBuffer { bytes })
     }
 
+    /// Returns the buffer, whose text has `len` bytes. Nothing then waits for the length in memory, which was just written.
+    #[inline(always)]
+    pub fn with_known_len(mut self, len: usize) -> Self
+        requires { size self.text ≡ len }
+        ensures { result ≡ self }
+    {
+        vec::shorten(&mut self.bytes, len);
+        self
+    }
+
     /// Reuses the buffer of `text`, with its capacity.
     pub fn from_string(text: String) -> Self
         ensures { result
@@ -226,7 +236,7 @@ impl HeapBuffer {
             return Some(char::from(byte));
         }
         let (index, character) = split_last(self.as_str())?;
-        self.truncate(index);
+        vec::shorten(&mut self.bytes, index);
         Some(character)
     }
 

@@ -3,7 +3,7 @@ use Rattle.std.proofs.Common.{◌≡◌, ℕ, ◌+◌, ◌-◌, ◌≤◌, List,
 use Rattle.std.proofs.Common.{◌∙◌, arith, append_assoc}
 use Rattle.std.proofs.lemmas.List.{take-take, take_all, replicate-append-replicate}
 use Rattle.std.proofs.lemmas.List.{drop-append-le, take-append-le, drop-drop, length-drop}
-use Rattle.std.proofs.Math.Seq.{take-append-add, take-add}
+use Rattle.std.proofs.Math.Seq.{take-append-add, take-append_seam, take-add}
 
 -- the first m bytes of the source are appended, truncated to k, and then its last n
 pub joined_ends : (slice source : List ℕ) (len m k n : ℕ) → len ≡ length slice → k ≤ m → k + n ≡ length source
@@ -14,6 +14,13 @@ joined_ends slice source len m k n e near all =
     ∙ ap (λ x. slice ++ x) (take-take k m source near))
     ∙ append_assoc slice (take k source) (take n (drop k source))
     ∙ ap (λ x. slice ++ x) (sym (take-add k n source) ∙ take_all (k + n) source (omega (arith, all)))
+
+-- one byte less
+pub one_less : (slice less : List ℕ) (last n k : ℕ) → take n slice ≡ less ++ last ∷ [] → length less ≡ k → k ≤ n
+    → less ≡ take k slice
+one_less slice less last n k e len near =
+    sym (ap (λ (j : ℕ). take j slice) (sym len) ∙ sym (take-take (length less) n slice (omega (arith, len, near)))
+    ∙ ap (take (length less)) e ∙ take-append_seam less (last ∷ []))
 
 -- one more block
 pub one_more : (slice source : List ℕ) (k n m : ℕ) → k + n ≡ m

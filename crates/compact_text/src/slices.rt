@@ -118,7 +118,7 @@ pub fn array_at<const N: usize>(source: &[u8], at: usize) -> [u8; N]
     }
 }
 
-/// The most bytes that are copied through an array. LLVM removes the array in a function that does little else; the kit's own
+/// The most bytes that are copied through an array. LLVM removes the array in the small functions around it; the kit's own
 /// compiler zeroes it for each copy. Loops by blocks take this as a parameter, which keeps the number out of their proofs.
 pub const BLOCK: usize = 16384;
 

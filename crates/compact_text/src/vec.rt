@@ -64,7 +64,7 @@ fn with_front(vec: Vec<u8>, front: ([u8; 4], usize)) -> (Vec<u8>, ())
     let (piece, count) = front;
     let len = vec.len();
     append_array::<4>(&mut vec, piece);
-    vec.truncate(len + count);
+    shorten(&mut vec, len + count);
     (vec, ())
 }
 
@@ -135,7 +135,8 @@ fn append_block(bytes: &mut Vec<u8>, source: &[u8])
     replace_with(bytes, source, with_block);
 }
 
-/// Copies `source` into a new vector of `capacity` bytes, at least its length. Inline this only where `with_block` may be.
+/// Copies `source` into a new vector of `capacity` bytes, at least its length. Always inlined, so that the vector needs no
+/// memory, and for where `with_block` may be.
 ///
 /// # Errors
 ///
@@ -165,7 +166,7 @@ pub fn copied(alloc: Global, source: &[u8], capacity: usize) -> Result<Vec<u8>, 
 /// Returns the vector with at most a block appended.
 ///
 /// Copies through an array, so that the compiler sees that no byte is read after it was written. It makes each loop a copy,
-/// and both one `memmove` without the array, but only in a function that does little else: so inline this only there.
+/// and both one `memmove` without the array, but only in a small function: so inline this only there.
 #[inline(always)]
 fn with_block(vec: Vec<u8>, source: &[u8]) -> (Vec<u8>, ())
     requires most { length source.now ≤ BLOCK }
@@ -210,6 +211,20 @@ pub fn pop_ascii(bytes: &mut Vec<u8>) -> Option<u8>
     match bytes.as_slice().last() {
         Some(byte) if byte.is_ascii() => Some(bytes.take_last()),
         _ => None,
+    }
+}
+
+/// Removes the bytes from `len` on, a few. Unlike `truncate`, compares no lengths, for which the next call would wait: LLVM
+/// makes the loop a subtraction, but the kit's own compiler does not.
+#[inline(always)]
+pub fn shorten(bytes: &mut Vec<u8>, len: usize)
+    requires { len ≤ vec_len bytes.old }
+    ensures items { bytes.new.items ≡ take len bytes.old.items }
+    ensures len { vec_len bytes.new ≡ len }
+    ensures capacity { vec_capacity bytes.new ≡ vec_capacity bytes.old }
+{
+    for _ in 0..bytes.len() - len {
+        bytes.take_last();
     }
 }
 
@@ -337,7 +352,7 @@ fn with_ends<const N: usize>(vec: Vec<u8>, source: &[u8]) -> (Vec<u8>, ())
     let len = vec.len();
     let rest = source.len() - N;
     append_array::<N>(&mut vec, array_at::<N>(source, 0));
-    vec.truncate(len + rest);
+    shorten(&mut vec, len + rest);
     append_array::<N>(&mut vec, array_at::<N>(source, rest));
     (vec, ())
 }

@@ -37,8 +37,8 @@ impl<P: Policy> Repr<P> {
         Ok(())
     }
 
-    /// Appends a character that `try_push` did not append. One that is not ASCII may still fit. Not inlined and cold, so that
-    /// a loop of appends stays short.
+    /// Appends a character that `try_push` did not append. One that is not ASCII may still fit, since `try_push` asks for four
+    /// bytes. Not inlined and cold, so that a loop of appends stays short.
     ///
     /// # Errors
     ///

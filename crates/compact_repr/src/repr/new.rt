@@ -32,7 +32,7 @@ impl<P: Policy> Repr<P> {
         ensures allocates { OnErr result (INLINE_CAPACITY < length text.now) }
     {
         if text.len() > INLINE_CAPACITY {
-            let heap = Self::copy_to_heap(alloc, text)?;
+            let heap = Self::copy_to_heap(alloc, text)?.with_known_len(text.len());
             return Ok(Self::from_buffer(alloc, Buffer::Heap(heap)));
         }
         let inline = InlineBuffer::new(text);
@@ -142,7 +142,8 @@ impl<P: Policy> Repr<P> {
                 Buffer::Inline([], inline.clone()),
             )),
             Buffer::Heap(heap) if heap.len() > INLINE_CAPACITY => {
-                let heap = Self::copy_to_heap(self.alloc, heap.as_str())?;
+                let text = heap.as_str();
+                let heap = Self::copy_to_heap(self.alloc, text)?.with_known_len(text.len());
                 Ok(Self::from_buffer(self.alloc, Buffer::Heap(heap)))
             }
             Buffer::Heap(heap) => Ok(Self::copy_inline(self.alloc, heap.as_str())),

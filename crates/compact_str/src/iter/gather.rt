@@ -11,6 +11,7 @@ use crate::stack_buffer::StackBuffer;
 use crate::string::PolicyString;
 use compact_repr::Policy;
 use std::alloc::Global;
+use std::mem;
 
 /// The most bytes of a short piece. Many more are expected after it.
 const SHORT: usize = 32;
@@ -51,7 +52,7 @@ pub fn gather<P: Policy, T: Element, I: Iterator<Item = T> + Drop>(
         between = separator;
     }
     drop(pieces);
-    finish(alloc, long, block.as_str())
+    finish(alloc, &mut long, block.as_str())
 }
 
 /// Appends a piece to the block, or, if that has no room, both to `long`.
@@ -107,18 +108,18 @@ fn first_capacity(len: usize, last: usize) -> usize {
 }
 
 /// Returns `long`, if that is not empty, and the last block as a value. Its capacity is at most twice the length, if memory
-/// is found.
+/// is found. Takes a reference: a vector that is passed is read as a whole, and waits for the fields that were just written.
 #[inline(always)]
 #[tactic(auto, using(crate::proofs::CollectFacts::builder_facts))]
 fn finish<P: Policy>(
     alloc: Global,
-    mut long: String,
+    long: &mut String,
     block: &str,
 ) -> Result<PolicyString<P>, ReserveError>
-    requires { (string_text long ≡ []) ⊎ (INLINE_CAPACITY < size (string_text long)) }
-    ensures text { IfOk result (λ v. v.text ≡ string_text long ++ text_of block.now) }
+    requires { (string_text long.old ≡ []) ⊎ (INLINE_CAPACITY < size (string_text long.old)) }
+    ensures text { IfOk result (λ v. v.text ≡ string_text long.old ++ text_of block.now) }
     ensures place { IfOk result IsPlacedBySize }
-    ensures err { OnErr result (INLINE_CAPACITY < size (string_text long ++ text_of block.now)) }
+    ensures err { OnErr result (INLINE_CAPACITY < size (string_text long.old ++ text_of block.now)) }
 {
     if long.is_empty() {
         return PolicyString::new(alloc, block);
@@ -129,5 +130,5 @@ fn finish<P: Policy>(
     {
         return Ok(exact);
     }
-    Ok(PolicyString::from(long))
+    Ok(PolicyString::from(mem::replace(long, String::new(alloc))))
 }

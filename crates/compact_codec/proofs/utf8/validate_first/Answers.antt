@@ -1,6 +1,6 @@
 use Rattle.std.proofs.Common.{rules, Some, sym, true≢false}
 use Rattle.compact_codec.proofs.InvalidSequenceLemmas.{first_is_refused, error_is_no_text}
-use Rattle.compact_codec.proofs.utf8.validate_to_error.Goals as goal
+use Rattle.compact_codec.proofs.utf8.validate_first.Goals as goal
 
 pub returns-then-begins_no_character : goal.returns-then-begins_no_character
 returns-then-begins_no_character c =
