@@ -327,7 +327,7 @@ fn validate_from(bytes: &[u8], at: usize) -> Result<&str, Utf8Error>
     }
 }
 
-/// `validate_in_order`, which takes longer if the first byte is an error.
+/// The same as `validate_in_order`, but finds an error in the first byte without a call of the validator.
 #[inline]
 fn validate_first(bytes: &[u8]) -> Result<&str, Utf8Error>
     ensures { Validates bytes.now result }

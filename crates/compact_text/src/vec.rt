@@ -135,8 +135,8 @@ fn append_block(bytes: &mut Vec<u8>, source: &[u8])
     replace_with(bytes, source, with_block);
 }
 
-/// Copies `source` into a new vector of `capacity` bytes, at least its length. Always inlined, so that the vector needs no
-/// memory, and for where `with_block` may be.
+/// Copies `source` into a new vector of `capacity` bytes, at least its length. Always inlined, so that the vector's length
+/// and address stay in registers; as `with_block`, for small functions only.
 ///
 /// # Errors
 ///

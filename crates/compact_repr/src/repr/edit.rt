@@ -38,35 +38,10 @@ impl<P: Policy> Repr<P> {
             → self.new ≡ placed_text (self.old.text ++ character ∷ []) self.old.placement }
         ensures full { result ≡ false → self.new ≡ self.old }
     {
-        if character.is_ascii() {
-            return self.try_push_ascii(character as u8);
-        }
-        // Apart from the match, and first: current compilers then test for a heap text first, and for a static one last.
-        if let Buffer::Inline(_, inline) = &mut self.buffer {
-            return inline.try_push(character);
-        }
         match &mut self.buffer {
+            Buffer::Inline(_, inline) => inline.try_push(character),
             Buffer::Heap(heap) => heap.try_push(character),
-            _ => false,
-        }
-    }
-
-    /// `try_push` of an ASCII character, which a loop over such text tests for before the place. The places are in the order
-    /// of `try_push`.
-    #[inline(always)]
-    fn try_push_ascii(&mut self, byte: u8) -> bool
-        requires { byte < 128 }
-        ensures fits { result ≡ fits_in_place self.old 1 }
-        ensures pushed { IsTrue result
-            → self.new ≡ placed_text (self.old.text ++ byte ∷ []) self.old.placement }
-        ensures full { result ≡ false → self.new ≡ self.old }
-    {
-        if let Buffer::Inline(_, inline) = &mut self.buffer {
-            return inline.try_push(char::from(byte));
-        }
-        match &mut self.buffer {
-            Buffer::Heap(heap) => heap.try_push(char::from(byte)),
-            _ => false,
+            Buffer::Static(_) => false,
         }
     }
 
