@@ -327,7 +327,7 @@ fn validate_from(bytes: &[u8], at: usize) -> Result<&str, Utf8Error>
     }
 }
 
-/// The same as `validate_in_order`, but finds an error in the first byte without a call of the validator.
+/// The same as `validate_in_order`, but finds an error in the first byte without calling `from_utf8`.
 #[inline]
 fn validate_first(bytes: &[u8]) -> Result<&str, Utf8Error>
     ensures { Validates bytes.now result }

@@ -21,9 +21,6 @@ use simd::{load, store};
 /// The most bytes that are copied or moved without a loop or a call.
 pub const SHORT: usize = 32;
 
-/// The most bytes that are appended or moved without a call of `memmove`, which takes longer to begin.
-pub const MAX_UNROLLED: usize = 128;
-
 /// Replaces the bytes from `start` to `end` of the first `len` bytes with `source`. Moves the tail once.
 #[inline]
 pub fn splice(slice: &mut [u8], len: usize, start: usize, end: usize, source: &[u8])

@@ -10,10 +10,13 @@ ghost use Rattle.std.specs.List.{replace_range};
 ghost use Rattle.std.specs.Vec.{vec_len, vec_capacity};
 ghost use Rattle.compact_text.specs.Text.{room_for_char};
 
-use crate::slices::{self, BLOCK, MAX_UNROLLED, SHORT, array_at, copy_each};
+use crate::slices::{self, BLOCK, SHORT, array_at, copy_each};
 use crate::str_parts::encoded;
 use core::mem::replace_with;
 use std::alloc::{AllocError, Global};
+
+/// The most bytes that are appended without a call of `memmove`, which takes longer to begin.
+const MAX_UNROLLED: usize = 256;
 
 /// Appends `source`. A short one is appended inline, without a loop or a call.
 #[inline(always)]
@@ -99,7 +102,7 @@ fn append_long(bytes: &mut Vec<u8>, source: &[u8])
     ensures capacity { vec_capacity bytes.new ≡ vec_capacity bytes.old }
 {
     if source.len() <= MAX_UNROLLED {
-        append_up_to_128(bytes, source);
+        append_up_to_256(bytes, source);
     } else if source.len() <= BLOCK {
         append_block(bytes, source);
     } else {
@@ -107,9 +110,9 @@ fn append_long(bytes: &mut Vec<u8>, source: &[u8])
     }
 }
 
-/// Appends more than 32 bytes, up to 128, as both ends.
+/// Appends more than 32 bytes, up to 256, as both ends.
 #[inline(always)]
-fn append_up_to_128(bytes: &mut Vec<u8>, source: &[u8])
+fn append_up_to_256(bytes: &mut Vec<u8>, source: &[u8])
     requires long { SHORT < length source.now }
     requires most { length source.now ≤ MAX_UNROLLED }
     requires room { vec_len bytes.old + length source.now ≤ vec_capacity bytes.old }
@@ -118,8 +121,10 @@ fn append_up_to_128(bytes: &mut Vec<u8>, source: &[u8])
 {
     if source.len() <= 64 {
         replace_with(bytes, source, with_ends::<32>);
-    } else {
+    } else if source.len() <= 128 {
         replace_with(bytes, source, with_ends::<64>);
+    } else {
+        replace_with(bytes, source, with_ends::<128>);
     }
 }
 
@@ -151,7 +156,7 @@ pub fn copied(alloc: Global, source: &[u8], capacity: usize) -> Result<Vec<u8>, 
     if source.len() <= SHORT {
         append_short(&mut vec, source);
     } else if source.len() <= MAX_UNROLLED {
-        append_up_to_128(&mut vec, source);
+        append_up_to_256(&mut vec, source);
     } else if source.len() <= BLOCK {
         replace_with(&mut vec, source, with_block);
     } else {

@@ -6,7 +6,11 @@ ghost use Rattle.std.specs.Prelude.{◌≡◌, ◌+◌, ◌-◌, ◌≤◌, ◌<
 ghost use lib.Seq.{paste};
 
 use super::simd::{load, store};
-use super::{BLOCK, MAX_UNROLLED, SHORT, copy_each};
+use super::{BLOCK, SHORT, copy_each};
+
+/// The most bytes that are moved without a call of `memmove`, which takes longer to begin. All are read before any is
+/// written.
+const MAX_UNROLLED: usize = 128;
 
 /// Moves `count` bytes from `from` to `to`, which may overlap.
 #[inline(always)]
