@@ -94,7 +94,7 @@ def main():
         table.write(f"{'row':30}{'time':>6}{'String':>10}{'Rust crate':>12}{'CompactString':>15}{'to better':>11}  reason\n")
         for row, (string, crate, ours) in sorted(zip(rows, counts), key=lambda one: (one[0][0], -one[0][3])):
             # A peer without the call runs nothing.
-            better = min(count for count in (string, crate) if count > 0)
+            better = min(count for count in (string, crate) if round(count) > 0)
             table.write(f"{' '.join(row[:3]):30}{row[3]:6.2f}{string:10.0f}{crate:12.0f}{ours:15.0f}{ours / better:11.2f}"
                         f"  {reason(row[0], ours / better)}\n")
         table.write("\nReasons, as read off the code\n\n")
