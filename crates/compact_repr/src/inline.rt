@@ -106,12 +106,13 @@ impl InlineBuffer {
         ensures pushed { IsTrue result → self.new ≡ self.old ++ character ∷ [] }
         ensures full { result ≡ false → self.new ≡ self.old }
     {
-        if character.is_ascii() {
-            return push_ascii(&mut self.bytes, character as u8);
-        }
         let Some(len) = len_below_24(&self.bytes) else {
             return false;
         };
+        if character.is_ascii() {
+            push_ascii(&mut self.bytes, len, character as u8);
+            return true;
+        }
         let Some(end) = slices::try_write_char(&mut self.bytes, len, character) else {
             return false;
         };

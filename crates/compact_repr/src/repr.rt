@@ -1,5 +1,5 @@
 //! The representation: a buffer of one of three kinds, and the allocator it grows with.
-ghost use Rattle.std.specs.Prelude.{◌≡◌, ◌<◌, ◌≤◌, ◌^◌, ◌↔◌, IsSome, IfSome, false, IfOk, IfErr, string_bytes};
+ghost use Rattle.std.specs.Prelude.{◌≡◌, ◌<◌, ◌≤◌, ◌^◌, ◌↔◌, IsSome, IfSome, IsTrue, false, IfOk, IfErr, string_bytes};
 ghost use Rattle.std.specs.String.{string_capacity};
 ghost use Rattle.compact_repr.specs.Words.{size, utf8, text_of, inline, is_heap_place, IsSound, IsStatic, IsHeap, IsInline};
 ghost use Rattle.compact_repr.specs.Packed.{IsPackedFor};
@@ -74,6 +74,18 @@ impl<P: Policy> Repr<P> {
             Buffer::Heap(heap) => heap.len(),
             Buffer::Inline(_, inline) => inline.len(),
             Buffer::Static(text) => text.len(),
+        }
+    }
+
+    /// Returns `true` if the text has no bytes. Compares in each arm: an inline length need not be decoded for that.
+    #[inline]
+    pub fn is_empty(&self) -> bool
+        ensures { IsTrue result ↔ (size self.now.text ≡ 0) }
+    {
+        match &self.buffer {
+            Buffer::Heap(heap) => heap.len() == 0,
+            Buffer::Inline(_, inline) => inline.len() == 0,
+            Buffer::Static(text) => text.len() == 0,
         }
     }
 

@@ -88,10 +88,10 @@ pub fn try_write_char(slice: &mut [u8], at: usize, character: char) -> Option<us
     ensures fits { IsSome result ↔ (at + room_for_char character ≤ length slice.old) }
     ensures full { result ≡ None → slice.new ≡ slice.old }
 {
+    if at == slice.len() {
+        return None;
+    }
     if character.is_ascii() {
-        if at == slice.len() {
-            return None;
-        }
         slice[at] = character as u8;
         return Some(at + 1);
     }

@@ -41,10 +41,10 @@ pub fn try_append_char(bytes: &mut Vec<u8>, character: char) -> bool
     ensures capacity { vec_capacity bytes.new ≡ vec_capacity bytes.old }
     ensures full { result ≡ false → bytes.new ≡ bytes.old }
 {
+    if bytes.len() == bytes.capacity() {
+        return false;
+    }
     if character.is_ascii() {
-        if bytes.len() == bytes.capacity() {
-            return false;
-        }
         bytes.push_reserved(character as u8);
         return true;
     }
@@ -101,8 +101,10 @@ fn append_long(bytes: &mut Vec<u8>, source: &[u8])
     ensures items { bytes.new.items ≡ bytes.old.items ++ source.now }
     ensures capacity { vec_capacity bytes.new ≡ vec_capacity bytes.old }
 {
-    if source.len() <= MAX_UNROLLED {
-        append_up_to_256(bytes, source);
+    if source.len() <= 64 {
+        replace_with(bytes, source, with_ends::<32>);
+    } else if source.len() <= MAX_UNROLLED {
+        append_65_to_256(bytes, source);
     } else if source.len() <= BLOCK {
         append_block(bytes, source);
     } else {
@@ -110,18 +112,16 @@ fn append_long(bytes: &mut Vec<u8>, source: &[u8])
     }
 }
 
-/// Appends more than 32 bytes, up to 256, as both ends.
+/// Appends 65 to 256 bytes, as both ends.
 #[inline(always)]
-fn append_up_to_256(bytes: &mut Vec<u8>, source: &[u8])
-    requires long { SHORT < length source.now }
+fn append_65_to_256(bytes: &mut Vec<u8>, source: &[u8])
+    requires long { 64 < length source.now }
     requires most { length source.now ≤ MAX_UNROLLED }
     requires room { vec_len bytes.old + length source.now ≤ vec_capacity bytes.old }
     ensures items { bytes.new.items ≡ bytes.old.items ++ source.now }
     ensures capacity { vec_capacity bytes.new ≡ vec_capacity bytes.old }
 {
-    if source.len() <= 64 {
-        replace_with(bytes, source, with_ends::<32>);
-    } else if source.len() <= 128 {
+    if source.len() <= 128 {
         replace_with(bytes, source, with_ends::<64>);
     } else {
         replace_with(bytes, source, with_ends::<128>);
@@ -155,8 +155,10 @@ pub fn copied(alloc: Global, source: &[u8], capacity: usize) -> Result<Vec<u8>, 
     let mut vec = Vec::with_capacity(alloc, capacity)?;
     if source.len() <= SHORT {
         append_short(&mut vec, source);
+    } else if source.len() <= 64 {
+        replace_with(&mut vec, source, with_ends::<32>);
     } else if source.len() <= MAX_UNROLLED {
-        append_up_to_256(&mut vec, source);
+        append_65_to_256(&mut vec, source);
     } else if source.len() <= BLOCK {
         replace_with(&mut vec, source, with_block);
     } else {

@@ -100,22 +100,18 @@ pub fn push_text(bytes: &mut [u8; 24], text: &str) -> bool
     true
 }
 
-/// Appends an ASCII byte to a text of less than 24 bytes. Returns whether it did. The last byte, for which the next edit
-/// waits, is raised by one, and the length is not encoded again. The 24th byte of a text then overwrites it.
+/// Appends an ASCII byte to a text of `len` bytes, less than 24. The last byte, for which the next edit waits, is raised by
+/// one, and the length is not encoded again. The 24th byte of a text then overwrites it.
 #[inline(always)]
-pub fn push_ascii(bytes: &mut [u8; 24], byte: u8) -> bool
+pub fn push_ascii(bytes: &mut [u8; 24], len: usize, byte: u8)
     requires packed { IsPackedFor bytes.old (packed_text bytes.old) }
+    requires len { len ≡ packed_len bytes.old }
+    requires room { len < INLINE_CAPACITY }
     requires ascii { byte < 128 }
-    ensures fits { IsTrue result ↔ (packed_len bytes.old + 1 ≤ INLINE_CAPACITY) }
-    ensures pushed { IsTrue result → IsPackedFor bytes.new (packed_text bytes.old ++ byte ∷ []) }
-    ensures full { result ≡ false → bytes.new ≡ bytes.old }
+    ensures { IsPackedFor bytes.new (packed_text bytes.old ++ byte ∷ []) }
 {
-    let Some(len) = len_below_24(bytes) else {
-        return false;
-    };
     bytes[INLINE_CAPACITY - 1] += 1;
     bytes[len] = byte;
-    true
 }
 
 /// Removes and returns the last byte of a text of 1 to 23 bytes if it is ASCII; otherwise changes nothing. The last byte

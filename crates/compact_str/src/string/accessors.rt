@@ -127,7 +127,7 @@ impl<P: Policy> PolicyString<P> {
         ensures text { IsTrue result ↔ (self.now.text ≡ []) }
         ensures size { IsTrue result ↔ (size self.now.text ≡ 0) }
     {
-        self.len() == 0
+        self.repr.is_empty()
     }
 
     /// Returns the capacity in bytes: 24 if inline, the length if static, and the size of the buffer on the heap.
